@@ -1,0 +1,3 @@
+mod ReadBack
+mod Spelled
+mod Tied

@@ -1,0 +1,3 @@
+mod Finds
+pub mod Pulled
+pub mod ReadBack
