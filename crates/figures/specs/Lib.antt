@@ -1,0 +1,10 @@
+pub mod Carries
+pub mod Cases
+pub mod Catching
+pub mod Cells
+pub mod Extremes
+pub mod Lines
+pub mod Named
+pub mod Results
+pub mod Rules
+pub mod Sets
