@@ -1,0 +1,10 @@
+pub mod Falls
+pub mod Gathers
+pub mod Leaves
+pub mod Means
+pub mod Padded
+pub mod Places
+pub mod Ranges
+pub mod Sorts
+pub mod Stays
+pub mod Tables
