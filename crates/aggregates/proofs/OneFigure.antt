@@ -10,7 +10,7 @@ use Rattle.figures.specs.declared.cells.Outcome.TheVariants.{Missing}
 use Rattle.figures.specs.declared.carry.Carry.{Carry}
 use Rattle.figures.specs.declared.figure.Figure as figure
 use Rattle.figures.specs.Catching.{due, is_due, stretch, Held, UpToDate, BroughtUp, KeepsUp, caught_up}
-use Rattle.figures.specs.Results.{carried, result}
+use Rattle.figures.specs.Results.{carried, outcome_of}
 use Rattle.aggregates.specs.Sets.{due_from, newly_due, next_carry, next_result, if_due}
 
 -- the ranks with a due result are those below the number of the due results
@@ -48,7 +48,7 @@ module _ {F : Type 0} (g : figure.Ghosts F) (theory : KeepsUp g) where
         record { suffix = ap (λ n. drop n (xs ++ ys)) (sym first_rank); reached = omega arith; carry = brought.held.carry }
 
     given : (stretch g f (carry_of g false xs f) (length (xs ++ ys) - length (drop d (xs ++ ys))) (drop d (xs ++ ys)) (due_from g (length xs) (length (xs ++ ys)) ended (drop d (xs ++ ys)) f) (newly_due g (length xs) (length (xs ++ ys)) ended (drop d (xs ++ ys)) f)
-        ≡ map (result g f (xs ++ ys)) (range_with_len (due (length xs) false (g.ahead f)) (due (length (xs ++ ys)) ended (g.ahead f) - due (length xs) false (g.ahead f))))
+        ≡ map (outcome_of g f (xs ++ ys)) (range_with_len (due (length xs) false (g.ahead f)) (due (length (xs ++ ys)) ended (g.ahead f) - due (length xs) false (g.ahead f))))
         × (next_carry g (length xs) (length (xs ++ ys)) ended (drop d (xs ++ ys)) f (carry_of g false xs f)
         ≡ carried g f (xs ++ ys) (due (length xs) false (g.ahead f) + (due (length (xs ++ ys)) ended (g.ahead f) - due (length xs) false (g.ahead f))))
     given =
@@ -68,26 +68,26 @@ module _ {F : Type 0} (g : figure.Ghosts F) (theory : KeepsUp g) where
         let old : Outcome = if_due g false xs i f in
         let all : List (List Cell) = xs ++ ys in
         let is : is_due (length (xs ++ ys)) ended (g.ahead f) i ≡ ltb i (due (length (xs ++ ys)) ended (g.ahead f)) = due_below (length (xs ++ ys)) ended (g.ahead f) i h in
-        let new : if_due g ended (xs ++ ys) i f ≡ cond (ltb i (due (length (xs ++ ys)) ended (g.ahead f))) (result g f (xs ++ ys) i) Missing = ap (λ b. cond b (result g f all i) Missing) is in
+        let new : if_due g ended (xs ++ ys) i f ≡ cond (ltb i (due (length (xs ++ ys)) ended (g.ahead f))) (outcome_of g f (xs ++ ys) i) Missing = ap (λ b. cond b (outcome_of g f all i) Missing) is in
         ⊎_elim
         (λ (below : i < due (length xs) false (g.ahead f)).
         cond-true (ltb i from) old _ (lt-ltb i from below)
-        ∙ cond-true (is_due (length xs) false (g.ahead f) i) (result g f xs i) Missing (lt-ltb (i + g.ahead f) (length xs) (omega arith))
+        ∙ cond-true (is_due (length xs) false (g.ahead f) i) (outcome_of g f xs i) Missing (lt-ltb (i + g.ahead f) (length xs) (omega arith))
         ∙ sym (brought.stays i below)
-        ∙ sym (cond-true (ltb i to) (result g f all i) Missing (lt-ltb i to (omega arith)))
+        ∙ sym (cond-true (ltb i to) (outcome_of g f all i) Missing (lt-ltb i to (omega arith)))
         ∙ sym new)
         (λ (above : due (length xs) false (g.ahead f) ≤ i).
         cond-false (ltb i from) old _ (le-ltb i from above)
         ∙ ap (λ r. get_or r (i - from) old) given.0
         ∙ ⊎_elim
         (λ (below : i < due (length (xs ++ ys)) ended (g.ahead f)).
-        get_or-map-range_with_len (result g f all) from (to - from) (i - from) i old (omega arith) (omega arith)
-        ∙ sym (cond-true (ltb i to) (result g f all i) Missing (lt-ltb i to below))
+        get_or-map-range_with_len (outcome_of g f all) from (to - from) (i - from) i old (omega arith) (omega arith)
+        ∙ sym (cond-true (ltb i to) (outcome_of g f all i) Missing (lt-ltb i to below))
         ∙ sym new)
         (λ (past : due (length (xs ++ ys)) ended (g.ahead f) ≤ i).
-        get_or_past (map (result g f all) (range_with_len from (to - from))) (i - from) old (omega (arith, length-map-range_with_len (result g f all) from (to - from)))
-        ∙ cond-false (is_due (length xs) false (g.ahead f) i) (result g f xs i) Missing (le-ltb (i + g.ahead f) (length xs) (omega arith))
-        ∙ sym (cond-false (ltb i to) (result g f all i) Missing (le-ltb i to past))
+        get_or_past (map (outcome_of g f all) (range_with_len from (to - from))) (i - from) old (omega (arith, length-map-range_with_len (outcome_of g f all) from (to - from)))
+        ∙ cond-false (is_due (length xs) false (g.ahead f) i) (outcome_of g f xs i) Missing (le-ltb (i + g.ahead f) (length xs) (omega arith))
+        ∙ sym (cond-false (ltb i to) (outcome_of g f all i) Missing (le-ltb i to past))
         ∙ sym new)
         (cases_lt i to))
         (cases_lt i from)

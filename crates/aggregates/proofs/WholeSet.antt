@@ -13,7 +13,7 @@ use Rattle.figures.specs.declared.set.FigureSet.TheVariants.{One, Two, Three, Fo
 use Rattle.figures.specs.declared.figure.Figure as figure
 use Rattle.figures.specs.Carries.{fresh}
 use Rattle.figures.specs.Catching.{is_due, KeepsUp}
-use Rattle.figures.specs.Results.{result}
+use Rattle.figures.specs.Results.{outcome_of}
 use Rattle.figures.specs.Sets.{figures, largest}
 use Rattle.figures.proofs.Largest.{set_largest}
 use Rattle.aggregates.specs.Figures.{Theory}
@@ -94,9 +94,9 @@ module _ {F : Type 0} (g : figure.Ghosts F) (theory : KeepsUp g) where
         starts = ap (λ (ks : List Carry). record { rows = 0; carries = ks }) (four_same fresh g.starts (carry_of g false []) fs (each _ (λ f. (theory.starts f 0).carry) fs));
         blanks = λ xs i h.
             sym (four_constant Missing fs (set_few set))
-            ∙ four_same Missing (λ f. Missing) (if_due g false xs i) fs (each _ (λ f. sym (cond-false (is_due (length xs) false (g.ahead f) i) (result g f xs i) Missing (le-ltb (i + g.ahead f) (length xs) (omega arith)))) fs);
-        ready = λ xs i h. four_same Missing (if_due g false xs i) (λ f. result g f xs i) fs (All-weaker _ _ (λ f l. cond-true (is_due (length xs) false (g.ahead f) i) (result g f xs i) Missing (lt-ltb (i + g.ahead f) (length xs) (omega arith))) fs aheads);
-        lasts = λ xs ys i h. four_same Missing (λ f. result g f (xs ++ ys) i) (λ f. result g f xs i) fs (All-weaker _ _ (λ f l. theory.stable f xs ys i (omega arith)) fs aheads);
+            ∙ four_same Missing (λ f. Missing) (if_due g false xs i) fs (each _ (λ f. sym (cond-false (is_due (length xs) false (g.ahead f) i) (outcome_of g f xs i) Missing (le-ltb (i + g.ahead f) (length xs) (omega arith)))) fs);
+        ready = λ xs i h. four_same Missing (if_due g false xs i) (λ f. outcome_of g f xs i) fs (All-weaker _ _ (λ f l. cond-true (is_due (length xs) false (g.ahead f) i) (outcome_of g f xs i) Missing (lt-ltb (i + g.ahead f) (length xs) (omega arith))) fs aheads);
+        lasts = λ xs ys i h. four_same Missing (λ f. outcome_of g f (xs ++ ys) i) (λ f. outcome_of g f xs i) fs (All-weaker _ _ (λ f l. theory.stable f xs ys i (omega arith)) fs aheads);
         forwards = λ xs ys d h. ap (λ (ks : List Carry). record { rows = length (xs ++ ys); carries = ks }) (carries_on w xs ys false d h fs (replicate (4 - length fs) fresh) reaches);
         writes = λ xs ys d h i l. results_on w xs ys false d h i l fs (replicate (4 - length fs) fresh) (replicate (4 - length fs) Missing) reaches;
         ends = λ xs ys d h i l. results_on w xs ys true d h i l fs (replicate (4 - length fs) fresh) (replicate (4 - length fs) Missing) reaches;

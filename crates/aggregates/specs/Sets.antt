@@ -8,7 +8,7 @@ use Rattle.figures.specs.declared.set.FigureSet.{FigureSet}
 use Rattle.figures.specs.declared.figure.Figure as figure
 use Rattle.figures.specs.Carries.{fresh}
 use Rattle.figures.specs.Catching.{due, is_due, stretch, carry_after}
-use Rattle.figures.specs.Results.{result}
+use Rattle.figures.specs.Results.{outcome_of}
 use Rattle.figures.specs.Sets.{figures, largest}
 use Rattle.aggregates.specs.declared.progress.Progress.{Progress}
 use Rattle.aggregates.specs.Figures.{Figures}
@@ -48,7 +48,7 @@ module _ {F : Type 0} (g : figure.Ghosts F) where
 
   -- the result of a rank where it is due
   abbrev pub if_due : Bool → List (List Cell) → ℕ → F → Outcome
-  if_due ended xs i f = cond (is_due (length xs) ended (g.ahead f) i) (result g f xs i) Missing
+  if_due ended xs i f = cond (is_due (length xs) ended (g.ahead f) i) (outcome_of g f xs i) Missing
 
   abbrev pub set_figures : FigureSet F → Figures Progress (List Outcome)
   set_figures set = record {
@@ -58,6 +58,6 @@ module _ {F : Type 0} (g : figure.Ghosts F) where
     blank = replicate 4 Missing;
     forward = λ p n ended cells. record { rows = n; carries = next_carries p.rows n ended cells (figures set) p.carries };
     write = λ p n ended cells i os. next_results p.rows n ended cells (figures set) p.carries i os;
-    result = λ xs i. four Missing (λ f. result g f xs i) (figures set);
+    result = λ xs i. four Missing (λ f. outcome_of g f xs i) (figures set);
     so_far = λ ended xs i. four Missing (if_due ended xs i) (figures set);
   }

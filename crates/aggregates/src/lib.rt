@@ -1,4 +1,6 @@
 // The figures' results, key by key, as they come due.
+#![tactic(auto)]
+
 mod catching;
 pub mod compute;
 mod gathering;

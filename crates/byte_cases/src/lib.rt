@@ -1,8 +1,10 @@
 // Numbers and texts in bytes, against values worked out elsewhere.
+#![tactic(auto)]
+
 #[cfg(test)]
 mod tests {
-    use bytes::numbers::{i32_at, u8_at, u16_at, u32_at};
-    use bytes::writer::{put, put_number, put_signed, put_text, put_u16};
+    use raw_bytes::numbers::{i32_at, u8_at, u16_at, u32_at};
+    use raw_bytes::writer::{put, put_number, put_signed, put_text, put_u16};
     use std::process::Abort;
 
     // A byte that no text here has: what it marks was not written.

@@ -3,7 +3,7 @@ use Rattle.std.specs.Prelude.{ℕ, ◌-◌, Bool, true, cond, ◌&&◌, List, []
 use Rattle.std.specs.declared.cmp.Ordering.{Ordering}
 use Rattle.std.specs.Cmp.{nat_eq_equiv}
 use Rattle.std.specs.Cmp.Lexicographic.{slice_cmp, each}
-use Rattle.bytes.specs.Numbers.{little_endian}
+use Rattle.raw_bytes.specs.Numbers.{little_endian}
 use Rattle.call_signs.specs.Letters.{code, letter_of}
 use Rattle.call_signs.specs.declared.letter.Letter.{Letter}
 use Rattle.call_signs.specs.declared.sign.CallSign.{CallSign}

@@ -5,13 +5,13 @@ ghost use Rattle.call_signs.specs.Signs.{sign_bytes, compared_bytes, padded, add
 ghost use Rattle.std.specs.Cmp.{nat_eq_equiv, nat_cmp_total};
 ghost use Rattle.std.specs.Cmp.Lexicographic.{lists_equiv, bytes_decides, lists_total};
 ghost use Rattle.keys.specs.Pulled.{pulled_equality, pulled_ranking, tie_is_equal};
-ghost use Rattle.bytes.specs.Numbers.{little_endian};
+ghost use Rattle.raw_bytes.specs.Numbers.{little_endian};
 ghost use Rattle.call_signs.specs.ReadBack.{sign_again, sign_only_written};
 ghost use Rattle.call_signs.specs.Tied.{signs_tied};
 
 use crate::letter::Letter;
-use bytes::writer::{put, put_text};
 use keys::key::{JournalKey, Key, OrderedKey};
+use raw_bytes::writer::{put, put_text};
 use std::cmp::Ordering;
 
 // A call sign: a case for each length, so that no other call sign exists.

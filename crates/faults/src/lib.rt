@@ -1,4 +1,6 @@
 // What a refusal says: its layer, its number and its place.
+#![tactic(auto)]
+
 pub mod run;
 pub mod settings;
 pub mod told;

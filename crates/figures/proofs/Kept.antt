@@ -9,7 +9,7 @@ use Rattle.figures.specs.declared.carry.Carry.{Carry}
 use Rattle.figures.specs.declared.cells.Cell.{Cell}
 use Rattle.figures.specs.declared.figure.Figure as figure
 use Rattle.figures.specs.Catching.{due, last, worked, absorbed_row, passed, stretch, carry_after, caught_up, Held, Right, UpToDate, BroughtUp, Follows, KeepsUp}
-use Rattle.figures.specs.Results.{carried, result}
+use Rattle.figures.specs.Results.{carried, outcome_of}
 use Rattle.figures.proofs.Framed.{nth_drop}
 
 -- due rows
@@ -76,7 +76,7 @@ module _ {F : Type 0} (g : figure.Ghosts F) (f : F) where
       (cases_lt m (length all))
 
   module _ (all rows : List (List Cell)) (k : Carry) (first i : ℕ) (held : Held g f all k first rows i) where
-    pub worked_is : worked g f k first rows i ≡ result g f all i
+    pub worked_is : worked g f k first rows i ≡ outcome_of g f all i
     worked_is =
         let b : ℕ = g.back f in
         let a : ℕ = g.ahead f in
@@ -110,11 +110,11 @@ module _ {F : Type 0} (g : figure.Ghosts F) (f : F) where
   gives k first rows i zero all held = (refl, held.carry ∙ ap (carried g f all) (let e : i ≡ i + 0 = omega arith in e))
   gives k first rows i (suc n) all held =
       let rest = gives (passed g f k first rows i) first rows (i + 1) n all (held_next all rows k first i held) in (
-        ap (λ o. o ∷ stretch g f (passed g f k first rows i) first rows (i + 1) n) (worked_is all rows k first i held) ∙ ap (λ os. result g f all i ∷ os) rest.0,
+        ap (λ o. o ∷ stretch g f (passed g f k first rows i) first rows (i + 1) n) (worked_is all rows k first i held) ∙ ap (λ os. outcome_of g f all i ∷ os) rest.0,
         rest.1 ∙ ap (carried g f all) (let e : i + 1 + n ≡ i + suc n = omega arith in e),
       )
 
-  stable : (all more : List (List Cell)) (i : ℕ) → i + g.ahead f < length all → result g f (all ++ more) i ≡ result g f all i
+  stable : (all more : List (List Cell)) (i : ℕ) → i + g.ahead f < length all → outcome_of g f (all ++ more) i ≡ outcome_of g f all i
   stable all more i h =
       let b : ℕ = g.back f in
       let a : ℕ = g.ahead f in
@@ -122,8 +122,8 @@ module _ {F : Type 0} (g : figure.Ghosts F) (f : F) where
       ∙ ap (λ r. g.yields f (carried g f all i) (drop (i - b) r) (i - (i - b))) (take-append-le (i + a + 1) all more (omega arith))
 
   -- a result that was due keeps its value
-  due_stable : (all new : List (List Cell)) (was is : Bool) (i : ℕ) → Follows was is new → i < due (length all) was (g.ahead f) → result g f (all ++ new) i ≡ result g f all i
-  due_stable all new true is i follows h = ap (λ r. result g f r i) (ap (λ r. all ++ r) (follows refl).1 ∙ append-nil all)
+  due_stable : (all new : List (List Cell)) (was is : Bool) (i : ℕ) → Follows was is new → i < due (length all) was (g.ahead f) → outcome_of g f (all ++ new) i ≡ outcome_of g f all i
+  due_stable all new true is i follows h = ap (λ r. outcome_of g f r i) (ap (λ r. all ++ r) (follows refl).1 ∙ append-nil all)
   due_stable all new false is i follows h = stable all new i (omega arith)
 
   -- the carry of a rank within the rows does not change with rows after them

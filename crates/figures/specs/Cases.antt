@@ -8,7 +8,7 @@ use Rattle.figures.specs.declared.cells.Outcome.TheVariants.{Missing, Value}
 use Rattle.figures.specs.declared.letters.Letter.{Letter}
 use Rattle.figures.specs.declared.letters.Letter.TheVariants.{Mean, Earlier, Later}
 use Rattle.figures.specs.Lines.{line}
-use Rattle.figures.specs.Results.{result}
+use Rattle.figures.specs.Results.{outcome_of}
 use Rattle.figures.specs.Rules.{meaning}
 
 abbrev pub row_of : ℤ → List Cell
@@ -19,7 +19,7 @@ three = row_of (pos 10) ∷ row_of (pos 20) ∷ row_of (pos 30) ∷ []
 
 -- at a rank of the key with these rows the letter gives this outcome, by its rule and by its line
 pub record Gives (l : Letter) (b a : ℕ) (rows : List (List Cell)) (i : ℕ) (o : Outcome) : Type 0 where
-  pub ruled : result meaning (record { letter = l; column = C0; before = b; after = a }) rows i ≡ o
+  pub ruled : outcome_of meaning (record { letter = l; column = C0; before = b; after = a }) rows i ≡ o
   pub lined : line l C0 b a rows i ≡ o
 
 pub record Worked : Type 0 where

@@ -5,7 +5,7 @@ use Rattle.figures.specs.declared.carry.Carry.{Carry}
 use Rattle.figures.specs.declared.cells.Cell.{Cell}
 use Rattle.figures.specs.declared.cells.Outcome.{Outcome}
 use Rattle.figures.specs.declared.figure.Figure as figure
-use Rattle.figures.specs.Results.{carried, result}
+use Rattle.figures.specs.Results.{carried, outcome_of}
 
 -- the result of rank i, of a figure that reaches `a` rows ahead, is due: so many later rows of the key have come, or the key has ended
 abbrev pub is_due : ℕ → Bool → ℕ → ℕ → Bool
@@ -49,7 +49,7 @@ module _ {F : Type 0} (g : figure.Ghosts F) (f : F) where
 
   -- n results from the rank i on, and the carry of the rank after them, are those of all the key's rows, whichever these are, if rows and carry were held for them
   abbrev pub Right : Carry → ℕ → List (List Cell) → ℕ → ℕ → List Outcome → Carry → Type 0
-  Right k first rows i n results k' = (all : List (List Cell)) → Held all k first rows i → (results ≡ map (result g f all) (range_with_len i n)) × (k' ≡ carried g f all (i + n))
+  Right k first rows i n results k' = (all : List (List Cell)) → Held all k first rows i → (results ≡ map (outcome_of g f all) (range_with_len i n)) × (k' ≡ carried g f all (i + n))
 
   -- a key is up to date: the kept rows are its last, at least min(n, w) of its n rows, and the carry is that of the first rank not due
   pub record UpToDate (w : ℕ) (all kept : List (List Cell)) (ended : Bool) (k : Carry) : Type 0 where
@@ -64,7 +64,7 @@ module _ {F : Type 0} (g : figure.Ghosts F) (f : F) where
     -- no result that was due is not due now
     pub grows : due (length all) was (g.ahead f) ≤ due (length (all ++ new)) is (g.ahead f)
     -- and each that was due keeps its value
-    pub stays : (i : ℕ) → i < due (length all) was (g.ahead f) → result g f (all ++ new) i ≡ result g f all i
+    pub stays : (i : ℕ) → i < due (length all) was (g.ahead f) → outcome_of g f (all ++ new) i ≡ outcome_of g f all i
     -- with all the rows kept, and after they were cut to the last min(n, w)
     pub next : UpToDate w (all ++ new) (kept ++ new) is k'
     pub cut : UpToDate w (all ++ new) (last (min (length (all ++ new)) w) (kept ++ new)) is k'
@@ -85,7 +85,7 @@ pub record KeepsUp {F : Type 0} (g : figure.Ghosts F) : Type 0 where
   -- from what is held, the results and the carry are those of all the rows
   pub gives : (f : F) (k : Carry) (first : ℕ) (rows : List (List Cell)) (i n : ℕ) → Right g f k first rows i n (stretch g f k first rows i n) (carry_after g f k first rows i n)
   -- a result with its rows after it does not change as more rows come
-  pub stable : (f : F) (all more : List (List Cell)) (i : ℕ) → i + g.ahead f < length all → result g f (all ++ more) i ≡ result g f all i
+  pub stable : (f : F) (all more : List (List Cell)) (i : ℕ) → i + g.ahead f < length all → outcome_of g f (all ++ more) i ≡ outcome_of g f all i
   -- a key that is up to date can be brought up to date, and the last min(n, w) of its rows suffice
   pub brings : (f : F) (w : ℕ) (all kept new : List (List Cell)) (was is : Bool) (k : Carry) → g.back f + g.ahead f ≤ w → Follows was is new
       → UpToDate g f w all kept was k → BroughtUp g f w all kept new was is k (caught_up g f all kept new was is k)

@@ -12,7 +12,7 @@ use Rattle.figures.specs.declared.letters.Letter.TheVariants.{RowNumber, Running
 use Rattle.figures.specs.declared.letters.LetterFigure.{LetterFigure}
 use Rattle.figures.specs.Cells.{numbers, cell_of, RowsFit}
 use Rattle.figures.specs.Extremes.{further}
-use Rattle.figures.specs.Results.{result}
+use Rattle.figures.specs.Results.{outcome_of}
 use Rattle.figures.specs.Rules.{meaning}
 
 -- the rows whose rank passes a test, the first having the rank j
@@ -87,7 +87,7 @@ line Later c b a rows i = cell_of c (slice_get rows (i + a))
 -- for every letter, column, reach, partition and rank, the rule applied to carry, frame and position gives the letter's line: the sums are exact, for cells of 32 bits and fewer than 2 ^ 32 rows
 abbrev pub LettersMean : Type 0
 LettersMean = (f : LetterFigure) (rows : List (List Cell)) (i : ℕ) → i < length rows → length rows < 2 ^ 32 → RowsFit rows
-    → result meaning f rows i ≡ line f.letter f.column f.before f.after rows i
+    → outcome_of meaning f rows i ≡ line f.letter f.column f.before f.after rows i
 
 -- the number y does not lie beyond m
 abbrev pub Within : Extreme → ℤ → ℤ → Type 0

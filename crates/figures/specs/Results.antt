@@ -15,5 +15,5 @@ module _ {F : Type 0} (g : figure.Ghosts F) (f : F) where
   carried rows i = fold (g.absorbs f) (g.starts f) (take (i - g.back f) rows)
 
   -- the value of the carry, the frame and the position, which is i less the frame's first rank
-  abbrev pub result : List (List Cell) → ℕ → Outcome
-  result rows i = g.yields f (carried rows i) (frame (g.back f) (g.ahead f) i rows) (i - (i - g.back f))
+  abbrev pub outcome_of : List (List Cell) → ℕ → Outcome
+  outcome_of rows i = g.yields f (carried rows i) (frame (g.back f) (g.ahead f) i rows) (i - (i - g.back f))

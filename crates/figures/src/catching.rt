@@ -20,11 +20,11 @@ pub fn due_rows(rows: u32, ended: bool, after: u16) -> u32
 }
 
 // Writes one result.
-fn put(results: &mut [Outcome], place: usize, res: Outcome)
+fn put(results: &mut [Outcome], place: usize, outcome: Outcome)
     requires { place < length results.old }
-    ensures { results.new ≡ slice_set results.old place res }
+    ensures { results.new ≡ slice_set results.old place outcome }
 {
-    results[place] = res;
+    results[place] = outcome;
 }
 
 // The carry of the rank after `rank`: the row that its frame leaves behind is absorbed.

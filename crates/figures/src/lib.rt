@@ -1,4 +1,6 @@
 // Window figures over the rows of one key: what a figure is, the twelve figures that a letter names, sets of figures, and the results of a key whose rows come little by little.
+#![tactic(auto)]
+
 pub mod carry;
 pub mod cases;
 pub mod catching;

@@ -2,7 +2,7 @@
 ghost use Rattle.std.specs.Prelude.{◌≡◌, ◌^◌, ◌<◌, length, fold};
 ghost use Rattle.figures.specs.Catching.{worked};
 ghost use Rattle.figures.specs.Lines.{line, LettersMean, ExtremesHold};
-ghost use Rattle.figures.specs.Results.{result};
+ghost use Rattle.figures.specs.Results.{outcome_of};
 ghost use Rattle.figures.specs.Rules.{meaning};
 
 use crate::carry::Carry;
@@ -19,7 +19,7 @@ pub(crate) fn result_of<F: Figure>(
     rank: usize,
 ) -> Outcome
     requires { rank < 2 ^ 63 }
-    ensures* { λ r. ⌜ r ≡ worked F.Figure figure.now carry.now first rows.now rank ⌝ }
+    ensures { result ≡ worked F.Figure figure.now carry.now first rows.now rank }
 {
     let start = rank.saturating_sub(figure.before() as usize);
     let end = rank + figure.after() as usize + 1;
@@ -30,7 +30,7 @@ pub(crate) fn result_of<F: Figure>(
 
 // What the starting carry becomes with some rows.
 fn absorb_from_start<F: Figure>(figure: &F, rows: &[[Cell; 4]]) -> Carry
-    ensures* { λ r. ⌜ r ≡ fold (F.Figure.absorbs figure.now) (F.Figure.starts figure.now) rows.now ⌝ }
+    ensures { result ≡ fold (F.Figure.absorbs figure.now) (F.Figure.starts figure.now) rows.now }
 {
     let mut carry = figure.start();
     for row in rows {
@@ -41,7 +41,7 @@ fn absorb_from_start<F: Figure>(figure: &F, rows: &[[Cell; 4]]) -> Carry
 
 // The result of a rank, from all of the key's rows.
 pub fn result_at<F: Figure>(figure: &F, rows: &[[Cell; 4]], rank: u32) -> Outcome
-    ensures* { λ r. ⌜ r ≡ result F.Figure figure.now rows.now rank ⌝ }
+    ensures { result ≡ outcome_of F.Figure figure.now rows.now rank }
 {
     let start = (rank as usize)
         .saturating_sub(figure.before() as usize)
@@ -52,10 +52,10 @@ pub fn result_at<F: Figure>(figure: &F, rows: &[[Cell; 4]], rank: u32) -> Outcom
 
 // The result of a letter's figure at a rank, from all of the key's rows. For every letter, column, reach, key and rank it is the letter's line.
 pub fn letter_at(figure: &LetterFigure, rows: &[[Cell; 4]], rank: u32) -> Outcome
-    ensures* value { λ r. ⌜ r ≡ result meaning figure.now rows.now rank ⌝ }
-    ensures* line { λ r. ⌜ (rank < length rows.now → length rows.now < 2 ^ 32 → r ≡ line figure.now.letter figure.now.column figure.now.before figure.now.after rows.now rank) ⌝ }
-    ensures* letters { λ _. ⌜ LettersMean ⌝ }
-    ensures* extremes { λ _. ⌜ ExtremesHold ⌝ }
+    ensures value { result ≡ outcome_of meaning figure.now rows.now rank }
+    ensures line { rank < length rows.now → length rows.now < 2 ^ 32 → result ≡ line figure.now.letter figure.now.column figure.now.before figure.now.after rows.now rank }
+    ensures letters { LettersMean }
+    ensures extremes { ExtremesHold }
 {
     rows_fit(rows);
     result_at(figure, rows, rank)

@@ -1,4 +1,6 @@
 // Compares the letters' results with a table that a SQL engine made, each twice: from all of the key's rows, and caught up as the rows come.
+#![tactic(auto)]
+
 ghost use Rattle.std.specs.Prelude.{◌≤◌, length};
 
 use figures::catching::{catch_up, due_rows};

@@ -1,7 +1,7 @@
 -- Berths that are equal where their piers are.
 use Rattle.std.specs.Prelude.{ℕ, Bool, cond, List, ◌++◌, length, Some, None, Option, ◌==◌}
 use Rattle.std.specs.declared.cmp.Ordering.{Ordering}
-use Rattle.bytes.specs.Numbers.{little_endian, two_bytes}
+use Rattle.raw_bytes.specs.Numbers.{little_endian, two_bytes}
 use Rattle.key_cases.specs.declared.pier.Pier.{Pier}
 use Rattle.std.specs.Ordering.{nat_cmp}
 

@@ -5,9 +5,9 @@ ghost use Rattle.key_cases.specs.Piers.{same_pier, pier_order, pier_bytes, pier_
 ghost use Rattle.std.specs.Cmp.{nat_eq_equiv, nat_cmp_total, unsigned_tied};
 ghost use Rattle.keys.specs.Pulled.{pulled_equality, pulled_ranking, tie_is_equal};
 
-use bytes::numbers::u16_at;
-use bytes::writer::put_u16;
 use keys::key::{Key, OrderedKey};
+use raw_bytes::numbers::u16_at;
+use raw_bytes::writer::put_u16;
 use std::cmp::Ordering;
 
 // A berth at a pier. The pier alone is compared, and all even piers share a hash, as do all odd ones.

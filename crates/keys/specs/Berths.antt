@@ -1,7 +1,7 @@
 -- A berth as a key: equal and ordered by its number, written as two bytes.
 use Rattle.std.specs.Prelude.{ℕ, Bool, cond, List, length, Some, None, Option, ◌==◌}
 use Rattle.std.specs.declared.cmp.Ordering.{Ordering}
-use Rattle.bytes.specs.Numbers.{little_endian}
+use Rattle.raw_bytes.specs.Numbers.{little_endian}
 use Rattle.keys.specs.declared.berth.Berth.{Berth}
 use Rattle.std.specs.Ordering.{nat_cmp}
 

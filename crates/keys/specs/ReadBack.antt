@@ -4,8 +4,8 @@ use Rattle.std.proofs.Common.{sym, ap, ◌∙◌, arith}
 use Rattle.std.specs.List.{AllByRecursion as All}
 use Rattle.std.proofs.lemmas.List.{drop_all}
 use Rattle.std.proofs.lemmas.Bool.{eqb-true}
-use Rattle.bytes.specs.Numbers.{little_endian, two_bytes}
-use Rattle.bytes.proofs.Reading.{written_back}
+use Rattle.raw_bytes.specs.Numbers.{little_endian, two_bytes}
+use Rattle.raw_bytes.proofs.Reading.{written_back}
 use Rattle.keys.specs.Berths.{berth_from}
 use Rattle.keys.specs.Routes.{route_berth_bytes, route_berth_from}
 use Rattle.keys.specs.declared.berth.Berth.{Berth}

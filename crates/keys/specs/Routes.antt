@@ -2,7 +2,7 @@
 use Rattle.std.specs.Prelude.{ℕ, Bool, cond, ◌&&◌, List, [], ◌∷◌, ◌++◌, length, Some, None, decimal, Option, ◌==◌}
 use Rattle.std.specs.declared.cmp.Ordering.{Ordering}
 use Rattle.std.specs.Ordering.{ordering_then, nat_cmp}
-use Rattle.bytes.specs.Numbers.{little_endian, two_bytes}
+use Rattle.raw_bytes.specs.Numbers.{little_endian, two_bytes}
 use Rattle.keys.specs.declared.route.RouteBerth.{RouteBerth}
 
 abbrev pub same_route_berth : RouteBerth → RouteBerth → Bool

@@ -1,15 +1,15 @@
 // Berths, by number.
 ghost use Rattle.std.specs.Prelude.{◌≡◌, decimal};
 ghost use Rattle.std.proofs.Common.{◌∙◌, rules};
-ghost use Rattle.bytes.specs.Numbers.{two_bytes};
+ghost use Rattle.raw_bytes.specs.Numbers.{two_bytes};
 ghost use Rattle.keys.specs.Berths.{same_berth, berth_order, berth_from};
 ghost use Rattle.std.specs.Cmp.{nat_eq_equiv, nat_cmp_total, unsigned_tied};
 ghost use Rattle.keys.specs.Pulled.{pulled_equality, pulled_ranking, tie_is_equal};
 ghost use Rattle.keys.specs.ReadBack.{berth_only_written};
 
 use crate::key::{JournalKey, Key, OrderedKey};
-use bytes::numbers::u16_at;
-use bytes::writer::{put_number, put_u16};
+use raw_bytes::numbers::u16_at;
+use raw_bytes::writer::{put_number, put_u16};
 use std::cmp::Ordering;
 
 // A berth, by its number.

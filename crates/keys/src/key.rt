@@ -5,7 +5,7 @@ ghost use Rattle.std.specs.declared.cmp.Ordering.TheVariants.{Equal};
 ghost use Rattle.std.specs.declared.cmp.Ordering.{Ordering as Rank};
 ghost use Rattle.std.specs.Ordering.{is_eq};
 ghost use Rattle.std.specs.List.{AllByRecursion as All};
-ghost use Rattle.bytes.specs.Writing.{Wrote};
+ghost use Rattle.raw_bytes.specs.Writing.{Wrote};
 ghost use Rattle.keys.specs.Laws.{Equality, Ranking};
 
 use std::cmp::Ordering;

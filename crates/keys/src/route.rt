@@ -7,8 +7,8 @@ ghost use Rattle.std.proofs.Common.{rules};
 ghost use Rattle.keys.specs.ReadBack.{route_berth_only_written};
 
 use crate::key::{JournalKey, Key, OrderedKey};
-use bytes::numbers::u16_at;
-use bytes::writer::{put, put_number, put_u16};
+use raw_bytes::numbers::u16_at;
+use raw_bytes::writer::{put, put_number, put_u16};
 use std::cmp::Ordering;
 
 // A berth on a route: the route comes first in order, and is the sorted part.

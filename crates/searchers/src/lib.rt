@@ -1,4 +1,6 @@
 // Searchers: the order of a batch, its groups, which keys have ended and how many rows leave, for each of three modes.
+#![tactic(auto)]
+
 pub mod ends;
 pub mod groups;
 mod index;

@@ -1,4 +1,6 @@
 // Settings of a run: as given, by numbers and letters, and checked.
+#![tactic(auto)]
+
 pub mod check;
 pub mod checked;
 mod given;

@@ -15,7 +15,7 @@ use Rattle.figures.specs.declared.figure.Figure as figure
 use Rattle.figures.specs.declared.letters.LetterFigure.{LetterFigure}
 use Rattle.figures.specs.Cells.{CellFits, RowsFit}
 use Rattle.figures.specs.Lines.{line, LettersMean}
-use Rattle.figures.specs.Results.{result}
+use Rattle.figures.specs.Results.{outcome_of}
 use Rattle.figures.specs.Rules.{meaning}
 use Rattle.figures.specs.Sets.{figures}
 use Rattle.searchers.specs.declared.search.PartitionSearcher as searcher
@@ -105,7 +105,7 @@ module _ {K S : Type 0} (k : key.Ghosts K) (o : ordered.Ghosts K) (s : searcher.
       let long : length cells ≡ length mine = length-map mine (λ (row : Row K). row.cells) in
       let part : length mine ≤ length b.rows = omega (arith, length-filter_both (λ (row : Row K). k.same row.key t.row.key) (λ row. not (k.same row.key t.row.key)) (λ row. refl) b.rows) in
       ap (λ (os : List Outcome). record { row = t.row; results = os ++ replicate (4 - length fs) Missing })
-      (map_same (λ f. result meaning f cells t.rank) (λ f. line f.letter f.column f.before f.after cells t.rank) fs
+      (map_same (λ f. outcome_of meaning f cells t.rank) (λ f. line f.letter f.column f.before f.after cells t.rank) fs
       (all_of _ (λ f. mean f cells t.rank (omega arith) (omega arith) (key_fits k.same t.row.key b.rows fit)) fs))
 
   pub lines_out : Equality k.same → LettersMean → RunsLawful k o s meaning

@@ -1,4 +1,6 @@
 // The fixed tables of a run: waiting rows, kept rows and held keys, linked by number.
+#![tactic(auto)]
+
 mod held;
 mod kept;
 mod numbers;

@@ -1,5 +1,7 @@
 // Prints the lines of the journal on standard input. As yet no layer reads journals, so the closing
 // line stands alone, as for a journal with no record in it.
+#![tactic(auto)]
+
 use std::io::Read;
 
 // The bytes of standard input that are read; what follows them is not.

@@ -1,6 +1,6 @@
 use Rattle.std.proofs.Common.{◌≡◌, ◌-◌, [], ◌∷◌, map, take, sym, ap, ◌∙◌, arith}
 use Rattle.std.proofs.lemmas.List.{take_all, map_more}
-use Rattle.bytes.proofs.Writing.{wrote_none, wrote_both}
+use Rattle.raw_bytes.proofs.Writing.{wrote_none, wrote_both}
 use Rattle.call_signs.specs.Signs.{underscored, sign_bytes}
 use Rattle.call_signs.proofs.Spelled.{cut_bytes}
 use Rattle.call_signs.proofs.sign.CallSignJournalKey.show.Goals as goal

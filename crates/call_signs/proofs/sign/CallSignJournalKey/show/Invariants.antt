@@ -1,5 +1,5 @@
 use Rattle.std.proofs.Common.{map, take}
-use Rattle.bytes.specs.Writing.{Wrote}
+use Rattle.raw_bytes.specs.Writing.{Wrote}
 use Rattle.call_signs.specs.Signs.{underscored}
 use Rattle.call_signs.proofs.sign.CallSignJournalKey.show.Given as goal
 

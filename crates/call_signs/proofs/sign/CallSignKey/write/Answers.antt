@@ -1,5 +1,5 @@
 use Rattle.std.proofs.Common.{[], ◌∷◌, arith}
-use Rattle.bytes.proofs.Writing.{wrote_both}
+use Rattle.raw_bytes.proofs.Writing.{wrote_both}
 use Rattle.call_signs.proofs.sign.CallSignKey.write.Goals as goal
 
 pub returns : goal.returns

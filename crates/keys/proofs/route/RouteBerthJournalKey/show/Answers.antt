@@ -1,5 +1,5 @@
 use Rattle.std.proofs.Common.{[], ◌∷◌, decimal, arith}
-use Rattle.bytes.proofs.Writing.{wrote_both}
+use Rattle.raw_bytes.proofs.Writing.{wrote_both}
 use Rattle.keys.proofs.route.RouteBerthJournalKey.show.Goals as goal
 
 pub returns : goal.returns

@@ -1,6 +1,6 @@
 use Rattle.std.proofs.Common.{arith}
-use Rattle.bytes.specs.Numbers.{two_bytes}
-use Rattle.bytes.proofs.Writing.{wrote_both}
+use Rattle.raw_bytes.specs.Numbers.{two_bytes}
+use Rattle.raw_bytes.proofs.Writing.{wrote_both}
 use Rattle.keys.proofs.route.RouteBerthKey.write.Goals as goal
 
 pub returns : goal.returns

@@ -1,7 +1,7 @@
 use Rattle.std.proofs.Common.{◌≡◌, [], ◌∷◌, nat_abs, decimal, arith}
 use Rattle.std.proofs.lemmas.Int.{ints, to_z-of_z}
-use Rattle.bytes.proofs.Writing.{wrote_both, signed_below, signed_from}
-use Rattle.bytes.proofs.writer.put_signed.Goals as goal
+use Rattle.raw_bytes.proofs.Writing.{wrote_both, signed_below, signed_from}
+use Rattle.raw_bytes.proofs.writer.put_signed.Goals as goal
 
 pub returns-then-n-lt0 : goal.returns-then-n-lt0
 returns-then-n-lt0 c =

@@ -1,6 +1,6 @@
 use Rattle.std.proofs.Common.{◌+◌, arith, rules}
-use Rattle.bytes.proofs.Reading.{little_endian_stopped}
-use Rattle.bytes.proofs.numbers.u16_at.Goals as goal
+use Rattle.raw_bytes.proofs.Reading.{little_endian_stopped}
+use Rattle.raw_bytes.proofs.numbers.u16_at.Goals as goal
 
 pub returns : goal.returns
 returns c =

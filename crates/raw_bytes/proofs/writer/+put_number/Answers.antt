@@ -1,7 +1,7 @@
 use Rattle.std.proofs.Common.{◌≡◌, ◌+◌, ◌/◌, ◌%◌, [], ◌∷◌, decimal, arith}
 use Rattle.std.proofs.lemmas.Fmt.{decimal_digit, decimal_step}
-use Rattle.bytes.proofs.Writing.{wrote_both}
-use Rattle.bytes.proofs.writer.+put_number.Goals as goal
+use Rattle.raw_bytes.proofs.Writing.{wrote_both}
+use Rattle.raw_bytes.proofs.writer.+put_number.Goals as goal
 
 pub returns-then-n-lt10 : goal.returns-then-n-lt10
 returns-then-n-lt10 t c =

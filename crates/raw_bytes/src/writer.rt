@@ -3,8 +3,8 @@
 // one pass over no bytes at all tells how long a text is. Places stop at the largest number.
 ghost use Rattle.std.specs.Prelude.{◌≡◌, [], ◌∷◌, decimal};
 ghost use Rattle.std.specs.Fmt.{signed_decimal};
-ghost use Rattle.bytes.specs.Numbers.{two_bytes, NumberLaws};
-ghost use Rattle.bytes.specs.Writing.{Wrote, WritingLaws};
+ghost use Rattle.raw_bytes.specs.Numbers.{two_bytes, NumberLaws};
+ghost use Rattle.raw_bytes.specs.Writing.{Wrote, WritingLaws};
 
 // Writes one byte.
 pub fn put(out: &mut [u8], at: usize, byte: u8) -> usize

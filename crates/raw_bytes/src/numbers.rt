@@ -1,7 +1,7 @@
 // Little-endian numbers in bytes. A byte past the end of the slice reads as 0, so every place has
 // an answer; whoever must tell a short slice apart looks at its length first.
 ghost use Rattle.std.specs.Prelude.{◌≡◌};
-ghost use Rattle.bytes.specs.Numbers.{little_endian, signed32};
+ghost use Rattle.raw_bytes.specs.Numbers.{little_endian, signed32};
 
 // The byte at a place.
 pub fn u8_at(bytes: &[u8], at: usize) -> u8

@@ -1,7 +1,7 @@
 use Rattle.std.proofs.Common.{[], ◌∷◌, get_or, take, arith}
 use Rattle.std.proofs.lemmas.List.{take_all, take_more}
-use Rattle.bytes.proofs.Writing.{wrote_none, wrote_both}
-use Rattle.bytes.proofs.writer.put_text.Goals as goal
+use Rattle.raw_bytes.proofs.Writing.{wrote_none, wrote_both}
+use Rattle.raw_bytes.proofs.writer.put_text.Goals as goal
 
 pub loop-byte-init : goal.loop-byte-init
 loop-byte-init c = wrote_none c.args.out.now c.args.at (omega arith)

@@ -1,6 +1,6 @@
 use Rattle.std.proofs.Common.{take}
-use Rattle.bytes.specs.Writing.{Wrote}
-use Rattle.bytes.proofs.writer.put_text.Given as goal
+use Rattle.raw_bytes.specs.Writing.{Wrote}
+use Rattle.raw_bytes.proofs.writer.put_text.Given as goal
 
 -- the bytes so far are written
 abbrev pub invariant-loop-byte : goal.invariant-loop-byte

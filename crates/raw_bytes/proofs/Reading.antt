@@ -5,7 +5,7 @@ use Rattle.std.specs.List.{AllByRecursion as All}
 use Rattle.std.proofs.lemmas.List.{get_or_past, get_or-append-add, drop_more}
 use Rattle.std.proofs.ByRecursion.{All-get_or}
 use Rattle.std.proofs.lemmas.Bool.{cases_lt}
-use Rattle.bytes.specs.Numbers.{little_endian, two_bytes, NumberLaws}
+use Rattle.raw_bytes.specs.Numbers.{little_endian, two_bytes, NumberLaws}
 
 pub little_endian_past : (width : ℕ) (bytes : List ℕ) (at : ℕ) → length bytes ≤ at → little_endian width bytes at ≡ 0
 little_endian_past zero bytes at h = refl

@@ -1,6 +1,0 @@
-use Rattle.bytes.proofs.Reading.{number_laws}
-use Rattle.bytes.proofs.Writing.{writing_laws}
-use Rattle.bytes.proofs.writer.writing_is_lawful.Goals as goal
-
-pub returns : goal.returns
-returns c = record { writing = writing_laws; numbers = number_laws }
