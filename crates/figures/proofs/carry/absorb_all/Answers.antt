@@ -7,7 +7,7 @@ use Rattle.figures.proofs.carry.absorb_all.Goals as goal
 pub loop-row-preserved : goal.loop-row-preserved
 loop-row-preserved c =
     folded_step (absorbed c.args.column) c.args.carry c.args.rows.now c.loop-row.row-index [] _ _ c.loop-row-test.true c.loop-row.invariant
-    (c.add-cell-all.ensures ∙ ap (added c.loop-row.all) c.cell-at.ensures)
+    (c.add_cell-all.ensures ∙ ap (added c.loop-row.all) c.cell_at.ensures)
 
 pub returns : goal.returns
 returns c = search (rules, take_all)

@@ -28,7 +28,7 @@ loop-place-preserved g c =
     let k' = c.pass-next.result in
     let room : j < length c.loop-place.results = omega (arith, c.loop-place-test.true, c.loop-place.auto.results) in (
       ap (λ r. take (j + 1) r ++ stretch m f k' c.args.first rows (c.args.from + (j + 1)) (n - (j + 1))) c.put.ensures
-          ∙ results_more m f k k' c.args.first rows c.args.from j n c.loop-place-test.true c.pass-next.ensures c.loop-place.results c.result-of-result.result room c.result-of-result.ensures
+          ∙ results_more m f k k' c.args.first rows c.args.from j n c.loop-place-test.true c.pass-next.ensures c.loop-place.results c.result_of-result.result room c.result_of-result.ensures
           ∙ c.loop-place.invariant.0,
       carry_more m f k k' c.args.first rows c.args.from j n c.loop-place-test.true c.pass-next.ensures ∙ c.loop-place.invariant.1,
     )

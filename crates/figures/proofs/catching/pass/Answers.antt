@@ -17,9 +17,9 @@ returns-then-place-rows g c =
     let m = g.F.Figure in
     let f = c.args.figure.now in
     let rows = c.args.rows.now in
-    let place = c.saturating-sub-place.result in
+    let place = c.saturating_sub-place.result in
     c.absorb.ensures
-    ∙ sym (left_at m f c.args.carry c.args.first rows c.args.rank place (omega (arith, c.before-before.ensures, c.if-rank-before.false)) (omega (arith, c.before-before.ensures, c.saturating-sub-place.ensures))
+    ∙ sym (left_at m f c.args.carry c.args.first rows c.args.rank place (omega (arith, c.before-before.ensures, c.if-rank-before.false)) (omega (arith, c.before-before.ensures, c.saturating_sub-place.ensures))
     ∙ ap (absorbed_row m f c.args.carry) (slice_get-get_or rows place [] c.if-place-rows.true))
 
 pub returns-else-place-rows : goal.returns-else-place-rows
@@ -27,6 +27,6 @@ returns-else-place-rows g c =
     let m = g.F.Figure in
     let f = c.args.figure.now in
     let rows = c.args.rows.now in
-    let place = c.saturating-sub-place.result in
-    sym (left_at m f c.args.carry c.args.first rows c.args.rank place (omega (arith, c.before-before.ensures, c.if-rank-before.false)) (omega (arith, c.before-before.ensures, c.saturating-sub-place.ensures))
+    let place = c.saturating_sub-place.result in
+    sym (left_at m f c.args.carry c.args.first rows c.args.rank place (omega (arith, c.before-before.ensures, c.if-rank-before.false)) (omega (arith, c.before-before.ensures, c.saturating_sub-place.ensures))
     ∙ ap (absorbed_row m f c.args.carry) (slice_get_past rows place c.if-place-rows.false))

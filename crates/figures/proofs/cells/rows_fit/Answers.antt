@@ -6,7 +6,7 @@ use Rattle.figures.specs.Cells.{CellFits, RowsFit}
 use Rattle.figures.proofs.cells.rows_fit.Goals as goal
 
 pub loop-row-preserved : goal.loop-row-preserved
-loop-row-preserved c = All-more (λ cells. All CellFits cells) c.args.rows.now c.loop-row.row-index [] (omega arith) c.loop-row.invariant c.row-fits.ensures
+loop-row-preserved c = All-more (λ cells. All CellFits cells) c.args.rows.now c.loop-row.row-index [] (omega arith) c.loop-row.invariant c.row_fits.ensures
 
 pub returns : goal.returns
 returns c = subst RowsFit (take_all c.loop-row.row-index c.args.rows.now (omega arith)) c.loop-row.invariant

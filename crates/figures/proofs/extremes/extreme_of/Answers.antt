@@ -9,7 +9,7 @@ use Rattle.figures.proofs.extremes.extreme_of.Goals as goal
 pub loop-row-preserved : goal.loop-row-preserved
 loop-row-preserved c =
     folded_step (λ best row. extended c.args.extreme best (cell c.args.column row)) Missing c.args.rows.now c.loop-row.row-index [] _ _ c.loop-row-test.true c.loop-row.invariant
-    (c.extend-best.ensures ∙ ap (extended c.args.extreme c.loop-row.best) c.cell-at.ensures)
+    (c.extend-best.ensures ∙ ap (extended c.args.extreme c.loop-row.best) c.cell_at.ensures)
 
 pub returns : goal.returns
 returns c = search (rules, take_all)

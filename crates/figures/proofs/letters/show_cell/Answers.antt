@@ -5,7 +5,7 @@ use Rattle.figures.proofs.letters.show_cell.Goals as goal
 
 pub returns-then-k-rows : goal.returns-then-k-rows
 returns-then-k-rows c =
-    c.show.ensures ∙ ap shown c.cell-at.ensures ∙ sym (ap (cell_of c.args.column) (slice_get-get_or c.args.rows.now c.args.k [] c.if-k-rows.true))
+    c.show.ensures ∙ ap shown c.cell_at.ensures ∙ sym (ap (cell_of c.args.column) (slice_get-get_or c.args.rows.now c.args.k [] c.if-k-rows.true))
 
 pub returns-else-k-rows : goal.returns-else-k-rows
 returns-else-k-rows c = sym (ap (cell_of c.args.column) (slice_get_past c.args.rows.now c.args.k c.if-k-rows.false))

@@ -5,8 +5,8 @@ use Rattle.figures.proofs.results.letter_at.Goals as goal
 
 pub returns : goal.returns
 returns c = record {
-  value = c.result-at.ensures;
-  line = λ within few. c.result-at.ensures ∙ letters_mean c.args.figure.now c.args.rows.now c.args.rank within few c.rows-fit.ensures;
+  value = c.result_at.ensures;
+  line = λ within few. c.result_at.ensures ∙ letters_mean c.args.figure.now c.args.rows.now c.args.rank within few c.rows_fit.ensures;
   letters = letters_mean;
   extremes = extremes_hold;
 }
