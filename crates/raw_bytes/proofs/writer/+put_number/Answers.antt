@@ -11,4 +11,4 @@ returns-then-n-lt10 t c =
 pub returns-else-n-lt10 : goal.returns-else-n-lt10
 returns-else-n-lt10 t c =
     rw (decimal_step c.args.n (omega arith) (omega arith))
-    (wrote_both (decimal (c.args.n / 10)) ((48 + c.args.n % 10) ∷ []) (omega arith) c.put-number-next.ensures c.put-else-n-lt10.ensures)
+    (wrote_both (decimal (c.args.n / 10)) ((48 + c.args.n % 10) ∷ []) (omega arith) c.put_number-next.ensures c.put-else-n-lt10.ensures)
