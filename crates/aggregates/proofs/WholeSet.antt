@@ -1,6 +1,6 @@
 -- The figures of a set, in their four places.
 use Rattle.std.proofs.Common.{◌≡◌, ℕ, zero, suc, ◌+◌, ◌-◌, ◌<◌, ◌≤◌, Bool, true, false, List, [], ◌∷◌, ◌++◌, map, length, take, drop, set, replicate, Some, sym, refl, ap, ◌∙◌, add-one, arith}
-use Rattle.std.specs.List.{slice_get, AllByRecursion as All}
+use Rattle.std.specs.List.{slice_get, AllByRecursion}
 use Rattle.std.proofs.ByRecursion.{All-weaker}
 use Rattle.std.proofs.lemmas.List.{replicate-append-replicate}
 use Rattle.std.proofs.lemmas.Bool.{le-ltb, lt-ltb, cond-true, cond-false}
@@ -27,11 +27,11 @@ set_few (Three f g h) = omega arith
 set_few (Four f g h j) = omega arith
 
 module _ {F X : Type 0} where
-  map_same : (v w : F → X) (fs : List F) → All (λ f. v f ≡ w f) fs → map v fs ≡ map w fs
+  map_same : (v w : F → X) (fs : List F) → AllByRecursion (λ f. v f ≡ w f) fs → map v fs ≡ map w fs
   map_same v w [] h = refl
   map_same v w (f ∷ fs) h = ap (λ x. x ∷ map v fs) h.0 ∙ ap (λ xs. w f ∷ xs) (map_same v w fs h.1)
 
-  four_same : (d : X) (v w : F → X) (fs : List F) → All (λ f. v f ≡ w f) fs → four d v fs ≡ four d w fs
+  four_same : (d : X) (v w : F → X) (fs : List F) → AllByRecursion (λ f. v f ≡ w f) fs → four d v fs ≡ four d w fs
   four_same d v w fs h = ap (λ xs. xs ++ replicate (4 - length fs) d) (map_same v w fs h)
 
   map_constant : (d : X) (fs : List F) → map (λ f. d) fs ≡ replicate (length fs) d
@@ -62,20 +62,20 @@ module _ {F X : Type 0} where
   four_more d v fs j f few e = rw add-one (four_suc d v fs j 4 f few e)
 
 -- what holds of each holds of all
-each : {F : Type 0} (P : F → Type 0) → ((f : F) → P f) → (fs : List F) → All P fs
+each : {F : Type 0} (P : F → Type 0) → ((f : F) → P f) → (fs : List F) → AllByRecursion P fs
 each P h [] = tt
 each P h (f ∷ fs) = (h f, each P h fs)
 
 module _ {F : Type 0} (g : figure.Ghosts F) (theory : KeepsUp g) where
   module _ (w : ℕ) (xs ys : List (List Cell)) (ended : Bool) (d : ℕ) (kept : d ≤ length xs - w) where
-    carries_on : (fs : List F) (rest : List Carry) → All (λ f. g.back f + g.ahead f ≤ w) fs
+    carries_on : (fs : List F) (rest : List Carry) → AllByRecursion (λ f. g.back f + g.ahead f ≤ w) fs
         → next_carries g (length xs) (length (xs ++ ys)) ended (drop d (xs ++ ys)) fs (map (carry_of g false xs) fs ++ rest) ≡ map (carry_of g ended (xs ++ ys)) fs ++ rest
     carries_on [] rest h = refl
     carries_on (f ∷ fs) rest h =
         ap (λ k. k ∷ next_carries g (length xs) (length (xs ++ ys)) ended (drop d (xs ++ ys)) fs (map (carry_of g false xs) fs ++ rest)) (carry_on g theory f w h.0 xs ys ended d kept)
         ∙ ap (λ ks. carry_of g ended (xs ++ ys) f ∷ ks) (carries_on fs rest h.1)
 
-    results_on : (i : ℕ) → i < length (xs ++ ys) → (fs : List F) (ks : List Carry) (os : List Outcome) → All (λ f. g.back f + g.ahead f ≤ w) fs
+    results_on : (i : ℕ) → i < length (xs ++ ys) → (fs : List F) (ks : List Carry) (os : List Outcome) → AllByRecursion (λ f. g.back f + g.ahead f ≤ w) fs
         → next_results g (length xs) (length (xs ++ ys)) ended (drop d (xs ++ ys)) fs (map (carry_of g false xs) fs ++ ks) i (map (if_due g false xs i) fs ++ os) ≡ map (if_due g ended (xs ++ ys) i) fs ++ os
     results_on i l [] ks os h = refl
     results_on i l (f ∷ fs) ks os h =
@@ -85,8 +85,8 @@ module _ {F : Type 0} (g : figure.Ghosts F) (theory : KeepsUp g) where
   pub supplied : (set : FigureSet F) → Theory (set_figures g set)
   supplied set =
       let fs : List F = figures set in
-      let reaches : All (λ f. g.back f + g.ahead f ≤ largest (λ f. g.back f + g.ahead f) (figures set)) (figures set) = (set_largest (λ f. g.back f + g.ahead f) set).covers in
-      let aheads : All (λ f. g.ahead f ≤ largest g.ahead (figures set)) (figures set) = (set_largest g.ahead set).covers in
+      let reaches : AllByRecursion (λ f. g.back f + g.ahead f ≤ largest (λ f. g.back f + g.ahead f) (figures set)) (figures set) = (set_largest (λ f. g.back f + g.ahead f) set).covers in
+      let aheads : AllByRecursion (λ f. g.ahead f ≤ largest g.ahead (figures set)) (figures set) = (set_largest g.ahead set).covers in
       let w : ℕ = largest (λ f. g.back f + g.ahead f) fs in
       let a : ℕ = largest g.ahead fs in
       record {

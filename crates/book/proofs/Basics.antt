@@ -1,6 +1,6 @@
 -- Lists and tests: what the shelf lacks.
 use Rattle.std.proofs.Common.{◌≡◌, suc, ◌+◌, Bool, true, false, cond, List, [], ◌∷◌, ◌++◌, map, length, take, drop, filter, sym, refl, ap, ◌∙◌, subst, inl, inr, arith}
-use Rattle.std.specs.List.{prefix_len, AllByRecursion as All}
+use Rattle.std.specs.List.{prefix_len, AllByRecursion}
 use Rattle.std.proofs.lemmas.List.{length-take-le, take-append-drop, get_or-take}
 use Rattle.std.proofs.ByRecursion.{All-get_or, All-push, All-weaker}
 use Rattle.std.proofs.lemmas.List.Sums.{prefix_len-le-length, prefix_len-drop_yes}
@@ -22,23 +22,23 @@ same_truth true y f g = sym (f refl)
 same_truth false y f g = sym (false_from y false g refl)
 
 module _ {A : Type 0} where
-  pub all_always : (P : A → Type 0) → ((x : A) → P x) → (xs : List A) → All P xs
+  pub all_always : (P : A → Type 0) → ((x : A) → P x) → (xs : List A) → AllByRecursion P xs
   all_always P h [] = tt
   all_always P h (x ∷ xs) = (h x, all_always P h xs)
 
-  pub all_with : (P Q S : A → Type 0) → ((x : A) → P x → Q x → S x) → (xs : List A) → All P xs → All Q xs → All S xs
+  pub all_with : (P Q S : A → Type 0) → ((x : A) → P x → Q x → S x) → (xs : List A) → AllByRecursion P xs → AllByRecursion Q xs → AllByRecursion S xs
   all_with P Q S h [] a b = tt
   all_with P Q S h (x ∷ xs) a b = (h x a.0 b.0, all_with P Q S h xs a.1 b.1)
 
-  pub kept_cong : (p q : A → Bool) (xs : List A) → All (λ x. p x ≡ q x) xs → filter p xs ≡ filter q xs
+  pub kept_cong : (p q : A → Bool) (xs : List A) → AllByRecursion (λ x. p x ≡ q x) xs → filter p xs ≡ filter q xs
   kept_cong p q [] h = refl
   kept_cong p q (x ∷ xs) h = ap (λ b. cond b (x ∷ filter p xs) (filter p xs)) h.0 ∙ ap (λ r. cond (q x) (x ∷ r) r) (kept_cong p q xs h.1)
 
-  pub kept_none : (p : A → Bool) (xs : List A) → All (λ x. p x ≡ false) xs → filter p xs ≡ []
+  pub kept_none : (p : A → Bool) (xs : List A) → AllByRecursion (λ x. p x ≡ false) xs → filter p xs ≡ []
   kept_none p [] h = refl
   kept_none p (x ∷ xs) h = ap (λ b. cond b (x ∷ filter p xs) (filter p xs)) h.0 ∙ kept_none p xs h.1
 
-  pub kept_whole : (p : A → Bool) (xs : List A) → All (λ x. p x ≡ true) xs → filter p xs ≡ xs
+  pub kept_whole : (p : A → Bool) (xs : List A) → AllByRecursion (λ x. p x ≡ true) xs → filter p xs ≡ xs
   kept_whole p [] h = refl
   kept_whole p (x ∷ xs) h = ap (λ b. cond b (x ∷ filter p xs) (filter p xs)) h.0 ∙ ap (λ z. x ∷ z) (kept_whole p xs h.1)
 
@@ -51,23 +51,23 @@ module _ {A : Type 0} where
         | inr n ↦ (let np : p x ≡ false = false_from (p x) (q x) (h x) n in rw (n, np) (kept_kept p q h xs))
       ]
 
-  pub leading_all : (p : A → Bool) (xs : List A) → All (λ x. p x ≡ true) (take (prefix_len p xs) xs)
+  pub leading_all : (p : A → Bool) (xs : List A) → AllByRecursion (λ x. p x ≡ true) (take (prefix_len p xs) xs)
   leading_all p [] = tt
   leading_all p (x ∷ xs) =
-      (elim (p x) as (λ b. p x ≡ b → All (λ x. p x ≡ true) (take (cond b (1 + prefix_len p xs) 0) (x ∷ xs))) [
-        | true ↦ λ e. (let one : 1 + prefix_len p xs ≡ suc (prefix_len p xs) = omega arith in subst (λ n. All (λ x. p x ≡ true) (take n (x ∷ xs))) (sym one) (e, leading_all p xs))
+      (elim (p x) as (λ b. p x ≡ b → AllByRecursion (λ x. p x ≡ true) (take (cond b (1 + prefix_len p xs) 0) (x ∷ xs))) [
+        | true ↦ λ e. (let one : 1 + prefix_len p xs ≡ suc (prefix_len p xs) = omega arith in subst (λ n. AllByRecursion (λ x. p x ≡ true) (take n (x ∷ xs))) (sym one) (e, leading_all p xs))
         | false ↦ λ e. tt
       ]) refl
 
-  pub leading_append : (p : A → Bool) (xs ys : List A) → All (λ x. p x ≡ true) xs → prefix_len p (xs ++ ys) ≡ length xs + prefix_len p ys
+  pub leading_append : (p : A → Bool) (xs ys : List A) → AllByRecursion (λ x. p x ≡ true) xs → prefix_len p (xs ++ ys) ≡ length xs + prefix_len p ys
   leading_append p [] ys h = omega arith
   leading_append p (x ∷ xs) ys h = ap (λ b. cond b (1 + prefix_len p (xs ++ ys)) 0) h.0 ∙ omega (arith, leading_append p xs ys h.1)
 
-  pub leading_cong : (p q : A → Bool) (xs : List A) → All (λ x. p x ≡ q x) xs → prefix_len p xs ≡ prefix_len q xs
+  pub leading_cong : (p q : A → Bool) (xs : List A) → AllByRecursion (λ x. p x ≡ q x) xs → prefix_len p xs ≡ prefix_len q xs
   leading_cong p q [] h = refl
   leading_cong p q (x ∷ xs) h = ap (λ b. cond b (1 + prefix_len p xs) 0) h.0 ∙ ap (λ n. cond (q x) (1 + n) 0) (leading_cong p q xs h.1)
 
-  pub leading_whole : (p : A → Bool) (xs : List A) → All (λ x. p x ≡ true) xs → prefix_len p xs ≡ length xs
+  pub leading_whole : (p : A → Bool) (xs : List A) → AllByRecursion (λ x. p x ≡ true) xs → prefix_len p xs ≡ length xs
   leading_whole p [] h = refl
   leading_whole p (x ∷ xs) h = ap (λ b. cond b (1 + prefix_len p xs) 0) h.0 ∙ omega (arith, leading_whole p xs h.1)
 
@@ -86,7 +86,7 @@ module _ {A : Type 0} where
       }
 
 module _ {A B : Type 0} where
-  pub leading_map : (p : A → Bool) (q : B → Bool) (g : A → B) (xs : List A) → All (λ x. p x ≡ q (g x)) xs → prefix_len p xs ≡ prefix_len q (map g xs)
+  pub leading_map : (p : A → Bool) (q : B → Bool) (g : A → B) (xs : List A) → AllByRecursion (λ x. p x ≡ q (g x)) xs → prefix_len p xs ≡ prefix_len q (map g xs)
   leading_map p q g [] h = refl
   leading_map p q g (x ∷ xs) h = ap (λ b. cond b (1 + prefix_len p xs) 0) h.0 ∙ ap (λ n. cond (q (g x)) (1 + n) 0) (leading_map p q g xs h.1)
 
@@ -97,36 +97,36 @@ module _ {A B : Type 0} where
       ap (λ r. cond (p (g x)) (g x ∷ r) r) (kept_map p g xs)
       ∙ (elim (p (g x)) as (λ b. cond b (g x ∷ rest) rest ≡ map g (cond b (x ∷ filter (λ x. p (g x)) xs) (filter (λ x. p (g x)) xs))) [ true ↦ refl | false ↦ refl ])
 
-  pub map_cong : (g h : A → B) (xs : List A) → All (λ x. g x ≡ h x) xs → map g xs ≡ map h xs
+  pub map_cong : (g h : A → B) (xs : List A) → AllByRecursion (λ x. g x ≡ h x) xs → map g xs ≡ map h xs
   map_cong g h [] e = refl
   map_cong g h (x ∷ xs) e = ap (λ y. y ∷ map g xs) e.0 ∙ ap (λ r. h x ∷ r) (map_cong g h xs e.1)
 
-  pub all_unmap : (P : B → Type 0) (g : A → B) (xs : List A) → All P (map g xs) → All (λ x. P (g x)) xs
+  pub all_unmap : (P : B → Type 0) (g : A → B) (xs : List A) → AllByRecursion P (map g xs) → AllByRecursion (λ x. P (g x)) xs
   all_unmap P g [] h = tt
   all_unmap P g (x ∷ xs) h = (h.0, all_unmap P g xs h.1)
 
 -- an order on a list: each element stands before the later ones
 abbrev pub Rises : {A : Type 0} → (A → A → Type 0) → List A → Type 0
 Rises le [] = Unit {0}
-Rises le (x ∷ xs) = All (le x) xs × Rises le xs
+Rises le (x ∷ xs) = AllByRecursion (le x) xs × Rises le xs
 
-pub rises_push : {A : Type 0} (le : A → A → Type 0) (xs : List A) (y : A) → Rises le xs → All (λ x. le x y) xs → Rises le (xs ++ y ∷ [])
+pub rises_push : {A : Type 0} (le : A → A → Type 0) (xs : List A) (y : A) → Rises le xs → AllByRecursion (λ x. le x y) xs → Rises le (xs ++ y ∷ [])
 rises_push le [] y r h = (tt, tt)
 rises_push le (x ∷ xs) y r h = (All-push (le x) xs y r.0 h.0, rises_push le xs y r.1 h.1)
 
 -- what stands behind the longest front that passes p fails g, where g gives p and falls along the list
 pub behind : {A : Type 0} (le : A → A → Type 0) (p g : A → Bool)
     → ((x : A) → g x ≡ true → p x ≡ true) → ((x y : A) → le x y → g y ≡ true → g x ≡ true)
-    → (xs : List A) → Rises le xs → All (λ x. g x ≡ false) (drop (prefix_len p xs) xs)
+    → (xs : List A) → Rises le xs → AllByRecursion (λ x. g x ≡ false) (drop (prefix_len p xs) xs)
 behind le p g gives falls [] r = tt
 behind le p g gives falls (x ∷ xs) r =
     elim (cases_Bool (p x)) [
       | inl passes ↦
           (let e : prefix_len p (x ∷ xs) ≡ suc (prefix_len p xs) = ap (λ b. cond b (1 + prefix_len p xs) 0) passes ∙ omega arith in
-          subst (λ n. All (λ x. g x ≡ false) (drop n (x ∷ xs))) (sym e) (behind le p g gives falls xs r.1))
+          subst (λ n. AllByRecursion (λ x. g x ≡ false) (drop n (x ∷ xs))) (sym e) (behind le p g gives falls xs r.1))
       | inr fails ↦
           (let e : prefix_len p (x ∷ xs) ≡ 0 = ap (λ b. cond b (1 + prefix_len p xs) 0) fails in
           let here : g x ≡ false = false_from (g x) (p x) (gives x) fails in
-          subst (λ n. All (λ x. g x ≡ false) (drop n (x ∷ xs))) (sym e)
+          subst (λ n. AllByRecursion (λ x. g x ≡ false) (drop n (x ∷ xs))) (sym e)
           (here, All-weaker (le x) (λ y. g y ≡ false) (λ y l. false_from (g y) (g x) (falls x y l) here) xs r.0))
     ]

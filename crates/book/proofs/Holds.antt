@@ -1,7 +1,7 @@
 -- The law over any list of calls: an accepted finish, refusals, and the induction.
 use Rattle.std.proofs.Common.{◌≡◌, ℕ, Bool, true, false, ltb, ◌⊎◌, List, [], ◌∷◌, ◌++◌, map, length, take, drop, Some, None, Option, sym, refl, ap, ◌∙◌, subst, inl, inr, arith}
 use mathlib.Core.List.{map-map}
-use Rattle.std.specs.List.{AllByRecursion as All}
+use Rattle.std.specs.List.{AllByRecursion}
 use Rattle.std.proofs.lemmas.Bool.{both_ways, or_right, true≢false}
 use Rattle.std.proofs.lemmas.List.{append-nil, map-append, length-map, take-append-drop, take_all, drop_all}
 use Rattle.std.proofs.ByRecursion.{All-weaker}
@@ -29,7 +29,7 @@ use Rattle.book.proofs.Pushes.{push_going, push_cut, push_uncut}
 
 -- a call that is not refused
 
-none_of : (causes : List (Option Told)) → first_of causes ≡ None → All (λ cause. cause ≡ None) causes
+none_of : (causes : List (Option Told)) → first_of causes ≡ None → AllByRecursion (λ cause. cause ≡ None) causes
 none_of [] e = tt
 none_of (None ∷ causes) e = (refl, none_of causes e)
 none_of (Some told ∷ causes) e = let z : ◌≡◌ {A = ℕ} 0 1 = cc in absurd (omega arith)
@@ -58,7 +58,7 @@ module _ {K R P : Type 0} (s : Settings K R P) (th : Theory s.figures) (l : Lawf
         let t = v.tables in
         let always : K → Bool = λ _. true in
         let w' = written s.figures t.kept (map (marked always) t.held) in
-        let each : All (λ w. out_row (w' w) ≡ afresh s b (tag w)) t.waiting =
+        let each : AllByRecursion (λ w. out_row (w' w) ≡ afresh s b (tag w)) t.waiting =
         All-weaker (Waits s th b.rows v.last b.rows v.last t.held) _
         (λ w q. ap (λ (z : R). record { row = w.row; results = z })
         ((results_caught s l th b.rows v.last b.rows v.last v.out t g.mid g.named.alive always always (λ _ _ _. refl) (all_always _ (λ _. refl) t.held) w q).1 refl))

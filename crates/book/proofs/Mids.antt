@@ -1,6 +1,6 @@
 -- What holds while the rows of a batch are admitted, one after the other.
 use Rattle.std.proofs.Common.{◌≡◌, ℕ, suc, ◌+◌, ◌-◌, ◌<◌, ◌≤◌, Bool, true, false, cond, not, ltb, List, [], ◌∷◌, ◌++◌, map, length, drop, Some, None, filter, Option, sym, refl, ap, ◌∙◌, subst, inl, inr, zero-le, arith}
-use Rattle.std.specs.List.{AllByRecursion as All}
+use Rattle.std.specs.List.{AllByRecursion}
 use Rattle.std.proofs.lemmas.Bool.{cases_Bool, cases_lt, lt-ltb}
 use Rattle.std.proofs.lemmas.List.{append-nil, append_assoc, map-append, map_push, length-append, length-map, length_push, length-drop, drop-append-le, nil_from_length}
 use Rattle.std.proofs.lemmas.List.Elements.{filter-append}
@@ -125,12 +125,12 @@ module _ {K R P : Type 0} (s : Settings K R P) where
 
   -- the held keys are those of the rows that the last key has not passed
   pub record Named (last : Option K) (now : List (Row K)) (held : List (Held K P)) : Type 0 where
-    pub alive : All (λ e. gone last e.key ≡ false) held
+    pub alive : AllByRecursion (λ e. gone last e.key ≡ false) held
     pub names : held_keys held ≡ filter (λ key. not (gone last key)) (distinct s.kind.same [] now)
 
   module _ (l : Lawful s.kind) where
     -- a key that is not held has no kept row
-    pub none_kept : (held : List (Held K P)) (kept : List (Kept K)) (key : K) → All (λ x. Located held x.row.key x.place) kept → Missing s.kind.same key held
+    pub none_kept : (held : List (Held K P)) (kept : List (Kept K)) (key : K) → AllByRecursion (λ x. Located held x.row.key x.place) kept → Missing s.kind.same key held
         → rows_of s.kind.same key (map (λ x. x.row) kept) ≡ []
     none_kept held kept key keeps missing =
         kept_none (λ x. s.kind.same x.key key) _ (All-map (λ x. s.kind.same x.key key ≡ false) (λ x. x.row) kept
@@ -141,7 +141,7 @@ module _ {K R P : Type 0} (s : Settings K R P) where
         ]) kept keeps))
 
     -- where no held key was passed, none that is found was
-    pub found_live : (last : Option K) (held : List (Held K P)) → All (λ e. gone last e.key ≡ false) held → (key : K) → Found s.kind.same key held → gone last key ≡ false
+    pub found_live : (last : Option K) (held : List (Held K P)) → AllByRecursion (λ e. gone last e.key ≡ false) held → (key : K) → Found s.kind.same key held → gone last key ≡ false
     found_live last held alive key lt =
         at_found s.kind.same (λ e. e.rows) 0 (λ e. gone last e.key ≡ false) (λ _. gone last key ≡ false) key
         (λ e a h. sym (gone_same s.kind l s.mode last e.key key h) ∙ a) held alive lt
@@ -163,11 +163,11 @@ module _ {K R P : Type 0} (s : Settings K R P) where
       pub tags : map tag t.waiting ≡ drop c (ranked s.kind.same [] now)
       pub short : c ≤ length now
       pub rises : Rises Before (ranked s.kind.same [] now)
-      pub under : All (λ u. over last u.row.key ≡ false) (ranked s.kind.same [] now)
+      pub under : AllByRecursion (λ u. over last u.row.key ≡ false) (ranked s.kind.same [] now)
       pub apart : Apart s.kind.same t.held
-      pub entries : All (Counted old last0 now last) t.held
-      pub waits : All (Waits old last0 now last t.held) t.waiting
-      pub keeps : All (λ x. Located t.held x.row.key x.place) t.kept
+      pub entries : AllByRecursion (Counted old last0 now last) t.held
+      pub waits : AllByRecursion (Waits old last0 now last t.held) t.waiting
+      pub keeps : AllByRecursion (λ x. Located t.held x.row.key x.place) t.kept
       pub covers : (key : K) → Missing s.kind.same key t.held → gone last key ≡ false → rows_of s.kind.same key now ≡ []
       pub stored : (key : K) → Found s.kind.same key t.held → Stored old now t.kept key
       pub grew : (key : K) → Grew old last0 now last key
@@ -206,7 +206,7 @@ module _ {K R P : Type 0} (s : Settings K R P) where
         own_under : over (Some r.key) r.key ≡ false
         own_under = same_not_lower s.kind l s.mode r.key r.key (l.equality.itself _)
 
-        entries_on : All (Counted old last0 (now ++ r ∷ []) (Some r.key)) (admitted_row t r).held
+        entries_on : AllByRecursion (Counted old last0 (now ++ r ∷ []) (Some r.key)) (admitted_row t r).held
         entries_on = counted_all s.kind.same l.equality (Counted old last0 now last) (Counted old last0 (now ++ r ∷ []) (Some r.key)) s.figures.start r.key
             (λ e h q. record {
               rows = omega (arith, q.rows, row_more e.key (l.equality.back _ _ h));
@@ -290,7 +290,7 @@ module _ {K R P : Type 0} (s : Settings K R P) where
             let w : Waiting K R = record { row = r; place = p; rank = rank; results = s.figures.blank } in
             let u : Ranked K = record { row = r; rank = length (rows_of same r.key now) } in
             let grown_tags : ranked same [] (now ++ r ∷ []) ≡ ranked same [] now ++ u ∷ [] = ranked_append same [] now (r ∷ []) in
-            let under_on : All (λ v. over (Some r.key) v.row.key ≡ false) (ranked same [] now) = All-weaker _ _ (λ v h. lifts v.row.key h) (ranked same [] now) m.under in
+            let under_on : AllByRecursion (λ v. over (Some r.key) v.row.key ≡ false) (ranked same [] now) = All-weaker _ _ (λ v h. lifts v.row.key h) (ranked same [] now) m.under in
             record {
               tags =
                   map_push tag t.waiting w ∙ ap (λ z. z ++ tag w ∷ []) m.tags
@@ -299,7 +299,7 @@ module _ {K R P : Type 0} (s : Settings K R P) where
                   ∙ ap (drop c) (sym grown_tags);
               short = omega (arith, m.short, length_push now r);
               rises = subst (Rises Before) (sym grown_tags) (rises_push Before (ranked same [] now) u m.rises under_on);
-              under = subst (All (λ v. over (Some r.key) v.row.key ≡ false)) (sym grown_tags)
+              under = subst (AllByRecursion (λ v. over (Some r.key) v.row.key ≡ false)) (sym grown_tags)
                   (All-push (λ v. over (Some r.key) v.row.key ≡ false) (ranked same [] now) u under_on own_under);
               apart = counted_apart same s.figures.start r.key t.held m.apart;
               entries = entries_on;

@@ -1,6 +1,6 @@
 -- Places of keys among the keys held: what counting a row in, marks and pruning do to them.
 use Rattle.std.proofs.Common.{◌≡◌, ℕ, zero, suc, ◌<◌, ◌≤◌, Bool, true, false, cond, not, eqb, ◌⊎◌, List, [], ◌∷◌, map, length, filter, sym, refl, ap, ◌∙◌, inl, inr, suc-le-suc, zero-le, arith}
-use Rattle.std.specs.List.{AllByRecursion as All}
+use Rattle.std.specs.List.{AllByRecursion}
 use Rattle.std.proofs.lemmas.Bool.{cases_Bool, cases_lt, eqb-true, eq-eqb}
 use Rattle.std.proofs.ByRecursion.{all_kept_by}
 use Rattle.keys.specs.Laws.{Equality}
@@ -27,7 +27,7 @@ module _ {K P : Type 0} (same : K → K → Bool) where
   -- no two held keys are the same
   abbrev pub Apart : List (Held K P) → Type 0
   Apart [] = Unit {0}
-  Apart (e ∷ held) = All (λ x. same e.key x.key ≡ false) held × Apart held
+  Apart (e ∷ held) = AllByRecursion (λ x. same e.key x.key ≡ false) held × Apart held
 
   -- each of some held keys stands where it is found among all, from p on
   abbrev pub Placed : List (Held K P) → ℕ → List (Held K P) → Type 0
@@ -43,7 +43,7 @@ module _ {K P : Type 0} (same : K → K → Bool) where
   -- what holds of the entry that is found
   pub at_found : {Y : Type 0} (f : Held K P → Y) (d : Y) (Q : Held K P → Type 0) (S : Y → Type 0) (a : K)
       → ((e : Held K P) → Q e → same e.key a ≡ true → S (f e))
-      → (held : List (Held K P)) → All Q held → Found same a held → S (value_at f d held (place_in same a held))
+      → (held : List (Held K P)) → AllByRecursion Q held → Found same a held → S (value_at f d held (place_in same a held))
   at_found f d Q S a h [] q lt = absurd (omega arith)
   at_found f d Q S a h (e ∷ held) q lt =
       (elim (same e.key a) as (λ b. same e.key a ≡ b → cond b 0 (suc (place_in same a held)) < suc (length held) → S (value_at f d (e ∷ held) (cond b 0 (suc (place_in same a held))))) [
@@ -81,10 +81,10 @@ module _ {K P : Type 0} (same : K → K → Bool) where
         | false ↦ suc-le-suc (counted_within st b held)
       ]
 
-  pub counted_keys : (Q : K → Type 0) (st : P) (b : K) (held : List (Held K P)) → All (λ e. Q e.key) held → Q b → All (λ e. Q e.key) (counted_in same st b held)
+  pub counted_keys : (Q : K → Type 0) (st : P) (b : K) (held : List (Held K P)) → AllByRecursion (λ e. Q e.key) held → Q b → AllByRecursion (λ e. Q e.key) (counted_in same st b held)
   counted_keys Q st b [] q h = (h, tt)
   counted_keys Q st b (e ∷ held) q h =
-      elim (same e.key b) as (λ t. All (λ e. Q e.key) (cond t (one_more e ∷ held) (e ∷ counted_in same st b held))) [ true ↦ q | false ↦ (q.0, counted_keys Q st b held q.1 h) ]
+      elim (same e.key b) as (λ t. AllByRecursion (λ e. Q e.key) (cond t (one_more e ∷ held) (e ∷ counted_in same st b held))) [ true ↦ q | false ↦ (q.0, counted_keys Q st b held q.1 h) ]
 
   pub counted_apart : (st : P) (b : K) (held : List (Held K P)) → Apart same held → Apart same (counted_in same st b held)
   counted_apart st b [] q = (tt, tt)
@@ -113,7 +113,7 @@ module _ {K P : Type 0} (same : K → K → Bool) where
   marked_place ended a [] = refl
   marked_place ended a (e ∷ held) = ap (λ n. cond (same e.key a) 0 (suc n)) (marked_place ended a held)
 
-  placed_cons : (e : Held K P) (whole : List (Held K P)) (p : ℕ) (held : List (Held K P)) → All (λ x. same e.key x.key ≡ false) held → Placed same whole p held → Placed same (e ∷ whole) (suc p) held
+  placed_cons : (e : Held K P) (whole : List (Held K P)) (p : ℕ) (held : List (Held K P)) → AllByRecursion (λ x. same e.key x.key ≡ false) held → Placed same whole p held → Placed same (e ∷ whole) (suc p) held
   placed_cons e whole p [] n q = tt
   placed_cons e whole p (x ∷ held) n q = (ap (λ t. cond t 0 (suc (place_in same x.key whole))) n.0 ∙ ap suc q.0, placed_cons e whole (suc p) held n.1 q.1)
 
@@ -212,7 +212,7 @@ module _ {K : Type 0} (same : K → K → Bool) (equality : Equality same) where
         → ((e : Held K P) → same e.key b ≡ true → Q e → S (one_more e))
         → ((e : Held K P) → same e.key b ≡ false → Q e → S e)
         → (held : List (Held K P)) → (Missing same b held → S (new_key st b))
-        → Apart same held → All Q held → All S (counted_in same st b held)
+        → Apart same held → AllByRecursion Q held → AllByRecursion S (counted_in same st b held)
     counted_all Q S st b hit miss [] new apart q = (new zero-le, tt)
     counted_all Q S st b hit miss (e ∷ held) new apart q =
         elim (cases_Bool (same e.key b)) [

@@ -1,7 +1,7 @@
 -- Pruning: the keys that have ended go, and of each other key the last rows stay.
 use Rattle.std.proofs.Common.{◌≡◌, ℕ, zero, suc, ◌+◌, ◌-◌, ◌<◌, ◌≤◌, Bool, true, false, cond, not, ◌||◌, ltb, List, [], ◌∷◌, map, length, drop, Option, sym, refl, ap, ◌∙◌, subst, inl, inr, arith}
 use mathlib.Core.List.{map-map}
-use Rattle.std.specs.List.{AllByRecursion as All}
+use Rattle.std.specs.List.{AllByRecursion}
 use Rattle.std.proofs.lemmas.Bool.{cases_Bool, cases_lt, both_ways, not-true, or_parts, lt-ltb, le-ltb}
 use Rattle.std.proofs.lemmas.List.{length-map, length-drop, drop-map, drop-drop}
 use Rattle.std.proofs.ByRecursion.{All-map, All-drop, all_kept_by, kept_by_passes}
@@ -36,11 +36,11 @@ module _ {K R P : Type 0} (s : Settings K R P) (l : Lawful s.kind) where
   abbrev renumbered_row : List (Held K P) → Kept K → Kept K
   renumbered_row held x = record { row = x.row; place = renumbered held x.place }
 
-  pruned_spots : (reach : ℕ) (held : List (Held K P)) (kept : List (Kept K)) → All (λ x. Located s held x.row.key x.place) kept
-      → All (λ x. Located s (going held) x.row.key x.place) (pruned reach held kept)
+  pruned_spots : (reach : ℕ) (held : List (Held K P)) (kept : List (Kept K)) → AllByRecursion (λ x. Located s held x.row.key x.place) kept
+      → AllByRecursion (λ x. Located s (going held) x.row.key x.place) (pruned reach held kept)
   pruned_spots reach held [] q = tt
   pruned_spots reach held (x ∷ xs) q =
-      (elim (goes reach held x xs) as (λ b. goes reach held x xs ≡ b → All (λ x. Located s (going held) x.row.key x.place) (cond b (pruned reach held xs) (renumbered_row held x ∷ pruned reach held xs))) [
+      (elim (goes reach held x xs) as (λ b. goes reach held x xs ≡ b → AllByRecursion (λ x. Located s (going held) x.row.key x.place) (cond b (pruned reach held xs) (renumbered_row held x ∷ pruned reach held xs))) [
         | true ↦ λ e. pruned_spots reach held xs q.1
         | false ↦ λ e.
             (let live : ended_place s.kind.same held x.row.key ≡ false = ap (value_at (λ e. e.ended) true held) (sym q.0.place) ∙ (or_parts _ _ e).0 in
@@ -50,7 +50,7 @@ module _ {K R P : Type 0} (s : Settings K R P) (l : Lawful s.kind) where
 
   -- of a key that has not ended the last rows stay
   pruned_rows : (reach : ℕ) (held : List (Held K P)) (key : K) → Found s.kind.same key held → ended_place s.kind.same held key ≡ false
-      → (kept : List (Kept K)) → All (λ x. Located s held x.row.key x.place) kept
+      → (kept : List (Kept K)) → AllByRecursion (λ x. Located s held x.row.key x.place) kept
       → rows_of s.kind.same key (map (λ x. x.row) (pruned reach held kept)) ≡ last_of reach (rows_of s.kind.same key (map (λ x. x.row) kept))
   pruned_rows reach held key lt live [] q = let z : 0 - reach ≡ 0 = omega arith in sym (ap (λ n. drop {A = Row K} n []) z)
   pruned_rows reach held key lt live (x ∷ xs) q =
@@ -89,13 +89,13 @@ module _ {K R P : Type 0} (s : Settings K R P) (l : Lawful s.kind) where
       ]
 
   module _ (th : Theory s.figures) (now : List (Row K)) (last : Option K) (c : ℕ) (t : Lists K R P) (m : Midway s th now last now last c t)
-      (ends : All (λ e. e.ended ≡ gone s last e.key) t.held) where
+      (ends : AllByRecursion (λ e. e.ended ≡ gone s last e.key) t.held) where
     -- whether a key that is held has ended
     ended_is : (key : K) → Found s.kind.same key t.held → ended_place s.kind.same t.held key ≡ gone s last key
     ended_is key lt = at_found s.kind.same (λ e. e.ended) true (λ e. e.ended ≡ gone s last e.key) (λ y. y ≡ gone s last key) key
         (λ e q h. q ∙ gone_same s.kind l s.mode last e.key key h) t.held ends lt
 
-    pub live_left : All (λ e. gone s last e.key ≡ false) (going t.held)
+    pub live_left : AllByRecursion (λ e. gone s last e.key ≡ false) (going t.held)
     live_left =
         all_with (λ e. e.ended ≡ gone s last e.key) (λ e. not e.ended ≡ true) (λ e. gone s last e.key ≡ false) (λ e a b. sym a ∙ not-true _ b) _
         (all_kept_by (λ e. not e.ended) (λ e. e.ended ≡ gone s last e.key) t.held ends) (kept_by_passes (λ e. not e.ended) t.held)
@@ -114,14 +114,14 @@ module _ {K R P : Type 0} (s : Settings K R P) (l : Lawful s.kind) where
         ∙ ap (λ z. drop z all) sum
 
     -- the first n waiting rows have left, and no row of an ended key waits behind them
-    pub midway_left : (n : ℕ) → c + n ≤ length now → All (λ u. gone s last u.row.key ≡ false) (drop (c + n) (ranked s.kind.same [] now)) → Midway s th now last now last (c + n) (let_go s.figures.reach n t)
+    pub midway_left : (n : ℕ) → c + n ≤ length now → AllByRecursion (λ u. gone s last u.row.key ≡ false) (drop (c + n) (ranked s.kind.same [] now)) → Midway s th now last now last (c + n) (let_go s.figures.reach n t)
     midway_left zero fits live = subst (λ z. Midway s th now last now last z t) (let e : c ≡ c + 0 = omega arith in e) m
     midway_left (suc n) fits live =
         let same = s.kind.same in
         let tags_on : map tag (drop (suc n) t.waiting) ≡ drop (c + suc n) (ranked same [] now) =
         sym (drop-map tag (suc n) t.waiting) ∙ ap (drop (suc n)) m.tags ∙ drop-drop (suc n) c (ranked same [] now) in
-        let lives : All (λ w. gone s last w.row.key ≡ false) (drop (suc n) t.waiting) =
-        all_unmap (λ u. gone s last u.row.key ≡ false) tag (drop (suc n) t.waiting) (subst (All (λ u. gone s last u.row.key ≡ false)) (sym tags_on) live) in
+        let lives : AllByRecursion (λ w. gone s last w.row.key ≡ false) (drop (suc n) t.waiting) =
+        all_unmap (λ u. gone s last u.row.key ≡ false) tag (drop (suc n) t.waiting) (subst (AllByRecursion (λ u. gone s last u.row.key ≡ false)) (sym tags_on) live) in
         record {
           tags = map-map tag (moved t.held) (drop (suc n) t.waiting) ∙ tags_on;
           short = fits;

@@ -1,7 +1,7 @@
 -- An accepted push: what is carried from call to call holds after it.
 use Rattle.std.proofs.Common.{◌≡◌, ℕ, zero, suc, ◌+◌, ◌-◌, ◌<◌, ◌≤◌, min, Bool, true, false, cond, not, ◌⊎◌, List, [], ◌∷◌, ◌++◌, map, length, take, drop, Some, None, filter, Option, sym, refl, ap, ◌∙◌, subst, inl, inr, arith, take-add}
 use mathlib.Core.List.{map-map}
-use Rattle.std.specs.List.{prefix_len, AllByRecursion as All}
+use Rattle.std.specs.List.{prefix_len, AllByRecursion}
 use Rattle.std.proofs.lemmas.Bool.{cases_Bool, cases_lt, both_ways, not-true, or_right}
 use Rattle.std.proofs.lemmas.List.{append-nil, append_assoc, nil_from_length, map-append, map_push, length-append, length-map, length-take-le, take-append-drop, take-append-le, take-map, drop_all}
 use Rattle.std.proofs.lemmas.List.Sums.{prefix_len-le-length}
@@ -67,7 +67,7 @@ module _ {K R P : Type 0} (s : Settings K R P) (th : Theory s.figures) (l : Lawf
   m1 : Midway s th b.rows v.last now last v.out (admitted_all s v.tables batch)
   m1 = midway_all s th l b.rows v.last b.rows v.last v.out v.tables g.mid batch 0 fits
 
-  agrees : All (λ e. marks e.key ≡ gone s last e.key) (admitted_all s v.tables batch).held
+  agrees : AllByRecursion (λ e. marks e.key ≡ gone s last e.key) (admitted_all s v.tables batch).held
   agrees = All-weaker (Counted s th b.rows v.last now last) _ (λ e q. ended_is_gone s.kind l s.mode last e.key q.under) _ m1.entries
 
   named1 : Named s v.last now (admitted_all s v.tables batch).held
@@ -79,10 +79,10 @@ module _ {K R P : Type 0} (s : Settings K R P) (th : Theory s.figures) (l : Lawf
   named2 : Named s v.last now ready.held
   named2 = caught_named s l (admitted_all s v.tables batch).kept marks v.last now (admitted_all s v.tables batch).held named1
 
-  ends : All (λ e. e.ended ≡ gone s last e.key) ready.held
+  ends : AllByRecursion (λ e. e.ended ≡ gone s last e.key) ready.held
   ends = push_ends s l th b.rows v.last now last v.out (admitted_all s v.tables batch) m1 named1.alive marks agrees
 
-  alike : All (λ w. settled s.figures.ahead ready.held w ≡ ripe s now last (tag w)) ready.waiting
+  alike : AllByRecursion (λ w. settled s.figures.ahead ready.held w ≡ ripe s now last (tag w)) ready.waiting
   alike = All-weaker (Waits s th now last now last ready.held) _ (settled_ripe s th l now last ready.held m2.entries ends) _ m2.waits
 
   last_on : last ≡ last_key None now
@@ -93,9 +93,9 @@ module _ {K R P : Type 0} (s : Settings K R P) (th : Theory s.figures) (l : Lawf
 
   -- The rows that were out before
 
-  were_ripe : All (λ u. ripe s b.rows v.last u ≡ true) (take v.out (ranked s.kind.same [] b.rows))
+  were_ripe : AllByRecursion (λ u. ripe s b.rows v.last u ≡ true) (take v.out (ranked s.kind.same [] b.rows))
   were_ripe =
-      subst (λ c. All (λ u. ripe s b.rows v.last u ≡ true) (take c (ranked s.kind.same [] b.rows))) (sym (g.fronts ∙ front_ripe s l b v g.book_open g.last g.mid.under))
+      subst (λ c. AllByRecursion (λ u. ripe s b.rows v.last u ≡ true) (take c (ranked s.kind.same [] b.rows))) (sym (g.fronts ∙ front_ripe s l b v g.book_open g.last g.mid.under))
       (leading_all (ripe s b.rows v.last) (ranked s.kind.same [] b.rows))
 
   take_old : take v.out turn ≡ take v.out (ranked s.kind.same [] b.rows)
@@ -107,8 +107,8 @@ module _ {K R P : Type 0} (s : Settings K R P) (th : Theory s.figures) (l : Lawf
   front_on : prefix_len (ripe s now last) turn ≡ v.out + count
   front_on =
       let p = ripe s now last in
-      let all : All (λ u. p u ≡ true) (take v.out turn) =
-      subst (All (λ u. p u ≡ true)) (sym take_old) (All-weaker (λ u. ripe s b.rows v.last u ≡ true) (λ u. p u ≡ true) (ripe_on s th b.rows v.last now last m1.grew) _ were_ripe) in
+      let all : AllByRecursion (λ u. p u ≡ true) (take v.out turn) =
+      subst (AllByRecursion (λ u. p u ≡ true)) (sym take_old) (All-weaker (λ u. ripe s b.rows v.last u ≡ true) (λ u. p u ≡ true) (ripe_on s th b.rows v.last now last m1.grew) _ were_ripe) in
       ap (prefix_len p) (sym (take-append-drop v.out turn)) ∙ leading_append p (take v.out turn) (drop v.out turn) all
       ∙ ap (λ z. z + prefix_len p (drop v.out turn)) (length-take-le v.out turn (omega (arith, m1.short, turn_long)))
       ∙ ap (λ z. v.out + prefix_len p z) (sym m2.tags)
@@ -118,9 +118,9 @@ module _ {K R P : Type 0} (s : Settings K R P) (th : Theory s.figures) (l : Lawf
   count_fits = omega (arith, front_on, prefix_len-le-length (ripe s now last) turn, turn_long)
 
   -- no row of an ended key waits behind the front
-  lives : All (λ u. gone s last u.row.key ≡ false) (drop (v.out + count) turn)
+  lives : AllByRecursion (λ u. gone s last u.row.key ≡ false) (drop (v.out + count) turn)
   lives =
-      subst (λ n. All (λ u. gone s last u.row.key ≡ false) (drop n turn)) front_on
+      subst (λ n. AllByRecursion (λ u. gone s last u.row.key ≡ false) (drop n turn)) front_on
       (behind (Before s) (ripe s now last) (λ u. gone s last u.row.key) (ripe_gone s now last) (λ x y le h. gone_down s.kind l s.mode last x.row.key y.row.key le h) _ m1.rises)
 
   -- The rows that leave
@@ -132,9 +132,9 @@ module _ {K R P : Type 0} (s : Settings K R P) (th : Theory s.figures) (l : Lawf
       let Done : Waiting K R → Type 0 = λ w. gone s last w.row.key ≡ true → w.results ≡ s.figures.result (cells_of s.kind.same w.row.key now) w.rank in
       let Alike : Waiting K R → Type 0 = λ w. settled s.figures.ahead ready.held w ≡ ripe s now last (tag w) in
       let Ripe : Waiting K R → Type 0 = λ w. ripe s now last (tag w) ≡ true in
-      let dones : All Done W = push_results s l th b.rows v.last now last v.out (admitted_all s v.tables batch) m1 named1.alive marks agrees in
-      let ripes : All Ripe (take count W) = all_with Alike _ Ripe (λ w a h. sym a ∙ h) (take count W) (All-take Alike count W alike) (leading_all (settled s.figures.ahead ready.held) W) in
-      let each : All (λ w. out_row w ≡ out_from s now (tag w)) (take count W) =
+      let dones : AllByRecursion Done W = push_results s l th b.rows v.last now last v.out (admitted_all s v.tables batch) m1 named1.alive marks agrees in
+      let ripes : AllByRecursion Ripe (take count W) = all_with Alike _ Ripe (λ w a h. sym a ∙ h) (take count W) (All-take Alike count W alike) (leading_all (settled s.figures.ahead ready.held) W) in
+      let each : AllByRecursion (λ w. out_row w ≡ out_from s now (tag w)) (take count W) =
       all_with (λ w. So w × Done w) Ripe _ (λ w q h. ap (λ (z : R). record { row = w.row; results = z }) (ripe_result s th now last w ready.held q.0 q.1 h)) (take count W)
       (All-take (λ w. So w × Done w) count W (all_with So Done (λ w. So w × Done w) (λ w a b. (a, b)) W m2.waits dones)) ripes in
       map_cong out_row (λ w. out_from s now (tag w)) (take count W) each
@@ -182,18 +182,18 @@ module _ {K R P : Type 0} (s : Settings K R P) (th : Theory s.figures) (l : Lawf
       ]
 
   -- with no row leaving no key has ended
-  none_gone : count ≡ 0 → All (λ e. gone s last e.key ≡ false) ready.held
+  none_gone : count ≡ 0 → AllByRecursion (λ e. gone s last e.key ≡ false) ready.held
   none_gone none =
       let same_front : v.out + count ≡ v.out = omega (arith, none) in
-      let before : All Either (take v.out turn) = subst (All Either) (sym take_old) (All-weaker (λ u. ripe s b.rows v.last u ≡ true) Either (λ u h. inl h) _ were_ripe) in
-      let after : All Either (drop v.out turn) = subst (λ n. All Either (drop n turn)) same_front (All-weaker (λ u. gone s last u.row.key ≡ false) Either (λ u h. inr h) _ lives) in
-      let all : All Either turn = subst (All Either) (take-append-drop v.out turn) (All-append Either (take v.out turn) (drop v.out turn) before after) in
+      let before : AllByRecursion Either (take v.out turn) = subst (AllByRecursion Either) (sym take_old) (All-weaker (λ u. ripe s b.rows v.last u ≡ true) Either (λ u h. inl h) _ were_ripe) in
+      let after : AllByRecursion Either (drop v.out turn) = subst (λ n. AllByRecursion Either (drop n turn)) same_front (All-weaker (λ u. gone s last u.row.key ≡ false) Either (λ u h. inr h) _ lives) in
+      let all : AllByRecursion Either turn = subst (AllByRecursion Either) (take-append-drop v.out turn) (All-append Either (take v.out turn) (drop v.out turn) before after) in
       all_with (Counted s th now last now last) (λ e. gone s v.last e.key ≡ false) (λ e. gone s last e.key ≡ false)
       (λ e q live. (let f = find_last s l Either e.key [] now (omega (arith, q.rows, q.some)) all in still_open none e.key f.0 f.1 f.2 f.3 live))
       ready.held m2.entries named2.alive
 
   open_left : (n : ℕ) → count ≡ n
-      → All (λ e. gone s last e.key ≡ false) (let_go s.figures.reach n ready).held
+      → AllByRecursion (λ e. gone s last e.key ≡ false) (let_go s.figures.reach n ready).held
       × (held_keys (let_go s.figures.reach n ready).held ≡ filter (λ key. not (gone s last key)) (held_keys ready.held))
   open_left zero none =
       let p : K → Bool = λ key. not (gone s last key) in

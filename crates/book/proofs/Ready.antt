@@ -1,7 +1,7 @@
 -- Marking and catching up: progress and results become those of all accepted rows.
 use Rattle.std.proofs.Common.{◌≡◌, ℕ, suc, ◌+◌, ◌-◌, ◌<◌, ◌≤◌, Bool, true, false, cond, eqb, List, [], ◌∷◌, ◌++◌, map, length, drop, Option, sym, refl, ap, ◌∙◌, subst, arith}
 use mathlib.Core.List.{map-map}
-use Rattle.std.specs.List.{AllByRecursion as All}
+use Rattle.std.specs.List.{AllByRecursion}
 use Rattle.std.proofs.lemmas.List.{append-nil, map-append, length-append, length-map, drop-map}
 use Rattle.std.proofs.ByRecursion.{All-weaker, All-map}
 use Rattle.searchers.specs.declared.rows.Row.{Row}
@@ -21,7 +21,7 @@ use Rattle.book.proofs.Mids.{tag, gone, over, Located, Counted, Waits, Midway, N
 
 module _ {K R P : Type 0} (s : Settings K R P) (l : Lawful s.kind) where
   -- the kept rows at a key's place are those of the key
-  pub kept_at : (held : List (Held K P)) (kept : List (Kept K)) (key : K) → All (λ x. Located s held x.row.key x.place) kept → Found s.kind.same key held
+  pub kept_at : (held : List (Held K P)) (kept : List (Kept K)) (key : K) → AllByRecursion (λ x. Located s held x.row.key x.place) kept → Found s.kind.same key held
       → rows_of s.kind.same key (map (λ x. x.row) kept) ≡ map (λ x. x.row) (of_place (place_in s.kind.same key held) kept)
   kept_at held kept key q lt =
       let same = s.kind.same in
@@ -43,7 +43,7 @@ module _ {K R P : Type 0} (s : Settings K R P) (l : Lawful s.kind) where
     caught_length p [] = refl
     caught_length p (e ∷ held) = ap suc (caught_length (suc p) held)
 
-    caught_all : (Q : K → Type 0) (p : ℕ) (held : List (Held K P)) → All (λ e. Q e.key) held → All (λ e. Q e.key) (caught p held)
+    caught_all : (Q : K → Type 0) (p : ℕ) (held : List (Held K P)) → AllByRecursion (λ e. Q e.key) held → AllByRecursion (λ e. Q e.key) (caught p held)
     caught_all Q p [] q = tt
     caught_all Q p (e ∷ held) q = (q.0, caught_all Q (suc p) held q.1)
 
@@ -60,9 +60,9 @@ module _ {K R P : Type 0} (s : Settings K R P) (l : Lawful s.kind) where
 
   -- the held keys are marked by g, which tells of each what `flag` does
   module _ (th : Theory s.figures) (old : List (Row K)) (last0 : Option K) (now : List (Row K)) (last : Option K) (c : ℕ) (t : Lists K R P) (m : Midway s th old last0 now last c t)
-      (alive : All (λ e. gone s last0 e.key ≡ false) t.held)
+      (alive : AllByRecursion (λ e. gone s last0 e.key ≡ false) t.held)
       (g flag : K → Bool) (flag_same : (a b : K) → s.kind.same a b ≡ true → flag a ≡ flag b)
-      (agrees : All (λ e. g e.key ≡ flag e.key) t.held) where
+      (agrees : AllByRecursion (λ e. g e.key ≡ flag e.key) t.held) where
     now_cells : (key : K) → cells_of s.kind.same key now ≡ cells_of s.kind.same key old ++ map (λ r. r.cells) (m.grew key).newer
     now_cells key = ap (map (λ (r : Row K). r.cells)) (m.grew key).grown ∙ map-append (λ (r : Row K). r.cells) (rows_of s.kind.same key old) (m.grew key).newer
 
@@ -119,9 +119,9 @@ module _ {K R P : Type 0} (s : Settings K R P) (l : Lawful s.kind) where
       pub under : over s last e.key ≡ false
       pub some : 0 < e.rows
 
-    caught_from : (held : List (Held K P)) (p : ℕ) → p + length held ≡ length t.held → Placed s.kind.same t.held p held → All (Counted s th old last0 now last) held
-        → All (λ e. gone s last0 e.key ≡ false) held → All (λ e. g e.key ≡ flag e.key) held
-        → All Caught (forwarded s.figures t.kept p (map (marked g) held))
+    caught_from : (held : List (Held K P)) (p : ℕ) → p + length held ≡ length t.held → Placed s.kind.same t.held p held → AllByRecursion (Counted s th old last0 now last) held
+        → AllByRecursion (λ e. gone s last0 e.key ≡ false) held → AllByRecursion (λ e. g e.key ≡ flag e.key) held
+        → AllByRecursion Caught (forwarded s.figures t.kept p (map (marked g) held))
     caught_from [] p h pl q lv a = tt
     caught_from (e ∷ held) p h pl q lv a =
         let lt : Found s.kind.same e.key t.held = omega (arith, h, pl.0) in (
@@ -136,7 +136,7 @@ module _ {K R P : Type 0} (s : Settings K R P) (l : Lawful s.kind) where
           caught_from held (suc p) (omega (arith, h)) pl.1 q.1 lv.1 a.1,
         )
 
-    entries_caught : All Caught (caught_up s.figures (mark g t)).held
+    entries_caught : AllByRecursion Caught (caught_up s.figures (mark g t)).held
     entries_caught = caught_from t.held 0 (omega arith) (placed s.kind.same l.equality t.held m.apart) m.entries alive agrees
 
     -- each waiting row has the results that are due
@@ -152,8 +152,8 @@ module _ {K R P : Type 0} (s : Settings K R P) (l : Lawful s.kind) where
         let lt' : Found same key held' = omega (arith, q.spot.found, e1, length-map t.held (marked g)) in
         let Q : Held K P → Type 0 = λ e. (e.rows ≡ length (rows_of same e.key now)) × (e.ended ≡ flag e.key) × (e.progress ≡ th.state (cells_of same e.key old)) × (gone s last0 e.key ≡ false) in
         let S : R → Type 0 = λ y. (flag key ≡ false → y ≡ s.figures.so_far false (cells_of same key now) w.rank) × (flag key ≡ true → y ≡ s.figures.result (cells_of same key now) w.rank) in
-        let live : All (λ e. Counted s th old last0 now last e × (gone s last0 e.key ≡ false)) t.held = all_with _ _ _ (λ e a b. (a, b)) t.held m.entries alive in
-        let all : All Q held' = All-map Q (marked g) t.held (all_with _ _ (λ e. Q (marked g e)) (λ e a b. (a.0.rows, b, a.0.progress a.1, a.1)) t.held live agrees) in
+        let live : AllByRecursion (λ e. Counted s th old last0 now last e × (gone s last0 e.key ≡ false)) t.held = all_with _ _ _ (λ e a b. (a, b)) t.held m.entries alive in
+        let all : AllByRecursion Q held' = All-map Q (marked g) t.held (all_with _ _ (λ e. Q (marked g e)) (λ e a b. (a.0.rows, b, a.0.progress a.1, a.1)) t.held live agrees) in
         let path : value_at (Y w.place) w.results held' w.place ≡ value_at (Y (place_in same key t.held)) w.results held' (place_in same key held') =
         ap (λ p. value_at (Y p) w.results held' p) q.spot.place ∙ ap (λ p. value_at (Y (place_in same key t.held)) w.results held' p) (sym e1) in
         subst S (sym path)
@@ -169,9 +169,9 @@ module _ {K R P : Type 0} (s : Settings K R P) (l : Lawful s.kind) where
 
   -- a push, caught up: the marks tell which keys the last key has passed
   module _ (th : Theory s.figures) (old : List (Row K)) (last0 : Option K) (now : List (Row K)) (last : Option K) (c : ℕ) (t : Lists K R P) (m : Midway s th old last0 now last c t)
-      (alive : All (λ e. gone s last0 e.key ≡ false) t.held)
-      (g : K → Bool) (agrees : All (λ e. g e.key ≡ gone s last e.key) t.held) where
-    push_caught : All (Caught th old last0 now last c t m alive g (gone s last) (gone_same s.kind l s.mode last) agrees) (caught_up s.figures (mark g t)).held
+      (alive : AllByRecursion (λ e. gone s last0 e.key ≡ false) t.held)
+      (g : K → Bool) (agrees : AllByRecursion (λ e. g e.key ≡ gone s last e.key) t.held) where
+    push_caught : AllByRecursion (Caught th old last0 now last c t m alive g (gone s last) (gone_same s.kind l s.mode last) agrees) (caught_up s.figures (mark g t)).held
     push_caught = entries_caught th old last0 now last c t m alive g (gone s last) (gone_same s.kind l s.mode last) agrees
 
     push_written : (w : Waiting K R) → Waits s th old last0 now last t.held w
@@ -179,11 +179,11 @@ module _ {K R P : Type 0} (s : Settings K R P) (l : Lawful s.kind) where
         × (gone s last w.row.key ≡ true → (written s.figures t.kept (map (marked g) t.held) w).results ≡ s.figures.result (cells_of s.kind.same w.row.key now) w.rank)
     push_written = results_caught th old last0 now last c t m alive g (gone s last) (gone_same s.kind l s.mode last) agrees
 
-    pub push_ends : All (λ e. e.ended ≡ gone s last e.key) (caught_up s.figures (mark g t)).held
+    pub push_ends : AllByRecursion (λ e. e.ended ≡ gone s last e.key) (caught_up s.figures (mark g t)).held
     push_ends = All-weaker _ (λ e. e.ended ≡ gone s last e.key) (λ e q. q.ended) _ push_caught
 
     -- the rows of an ended key have their results
-    pub push_results : All (λ w. gone s last w.row.key ≡ true → w.results ≡ s.figures.result (cells_of s.kind.same w.row.key now) w.rank) (caught_up s.figures (mark g t)).waiting
+    pub push_results : AllByRecursion (λ w. gone s last w.row.key ≡ true → w.results ≡ s.figures.result (cells_of s.kind.same w.row.key now) w.rank) (caught_up s.figures (mark g t)).waiting
     push_results = All-map (λ w. gone s last w.row.key ≡ true → w.results ≡ s.figures.result (cells_of s.kind.same w.row.key now) w.rank) (written s.figures t.kept (map (marked g) t.held)) t.waiting
         (All-weaker (Waits s th old last0 now last t.held) _ (λ w q. (push_written w q).1) t.waiting m.waits)
 

@@ -1,6 +1,6 @@
 -- Settled rows: by the book, by the entry of the key, and as more rows come.
 use Rattle.std.proofs.Common.{◌≡◌, suc, ◌+◌, ◌<◌, Bool, true, false, cond, ◌||◌, ltb, ◌⊎◌, List, [], ◌∷◌, ◌++◌, map, length, None, Option, sym, ap, ◌∙◌, inl, inr, arith}
-use Rattle.std.specs.List.{AllByRecursion as All}
+use Rattle.std.specs.List.{AllByRecursion}
 use Rattle.std.proofs.lemmas.Bool.{cases_Bool, cases_lt, both_ways, ltb-true, lt-ltb, or_cases, or_left, or_right}
 use Rattle.std.proofs.lemmas.List.{append-nil, append_assoc, map-append, length-append, length-map}
 use Rattle.std.proofs.lemmas.List.Elements.{filter-append}
@@ -49,7 +49,7 @@ module _ {K R P : Type 0} (s : Settings K R P) (l : Lawful s.kind) where
       ap (λ z. ltb (u.rank + s.figures.ahead) (length (rows_of s.kind.same u.row.key b.rows)) || z) (book_ended b last unfinished is u.row.key under)
 
   -- the last row of a key that has rows
-  pub find_last : (Q : Ranked K → Type 0) (key : K) (before rows : List (Row K)) → 0 < length (rows_of s.kind.same key rows) → All Q (ranked s.kind.same before rows)
+  pub find_last : (Q : Ranked K → Type 0) (key : K) (before rows : List (Row K)) → 0 < length (rows_of s.kind.same key rows) → AllByRecursion Q (ranked s.kind.same before rows)
       → (u : Ranked K) × (s.kind.same u.row.key key ≡ true) × (u.rank + 1 ≡ length (rows_of s.kind.same key (before ++ rows))) × Q u
   find_last Q key before [] h a = absurd (omega arith)
   find_last Q key before (r ∷ rows) h a =
@@ -70,7 +70,7 @@ module _ {K R P : Type 0} (s : Settings K R P) (l : Lawful s.kind) where
 
 module _ {K R P : Type 0} (s : Settings K R P) (th : Theory s.figures) where
   -- by the entry of a waiting row's key
-  pub settled_ripe : (l : Lawful s.kind) (now : List (Row K)) (last : Option K) (held : List (Held K P)) → All (Counted s th now last now last) held → All (λ e. e.ended ≡ gone s last e.key) held
+  pub settled_ripe : (l : Lawful s.kind) (now : List (Row K)) (last : Option K) (held : List (Held K P)) → AllByRecursion (Counted s th now last now last) held → AllByRecursion (λ e. e.ended ≡ gone s last e.key) held
       → (w : Waiting K R) → Waits s th now last now last held w → settled s.figures.ahead held w ≡ ripe s now last (tag w)
   settled_ripe l now last held entries ends w q =
       let same = s.kind.same in

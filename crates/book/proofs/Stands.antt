@@ -1,7 +1,7 @@
 -- A run that is not finished, against its book: what is carried from call to call, and that the law follows from it.
 use Rattle.std.proofs.Common.{◌≡◌, ◌-◌, ◌<◌, min, Bool, true, false, cond, not, ltb, List, [], ◌∷◌, ◌++◌, map, length, take, drop, None, sym, ap, ◌∙◌, subst, arith}
 use mathlib.Core.List.{map-map}
-use Rattle.std.specs.List.{prefix_len, AllByRecursion as All}
+use Rattle.std.specs.List.{prefix_len, AllByRecursion}
 use Rattle.std.proofs.lemmas.Bool.{both_ways}
 use Rattle.std.proofs.lemmas.List.{length-map, length-take-le}
 use Rattle.std.proofs.ByRecursion.{All-weaker, All-map, All-push}
@@ -22,10 +22,10 @@ use Rattle.book.proofs.Mids.{tag, gone, over, Counted, Waits, Midway, Named, fou
 use Rattle.book.proofs.Settles.{ripe, book_ended, book_ripe}
 
 module _ {K : Type 0} (same : K → K → Bool) (Q : K → Type 0) where
-  noticed_all : (key : K) (keys : List K) → All Q keys → Q key → All Q (noticed same key keys)
-  noticed_all key keys a h = elim (ltb (place same key keys) (length keys)) as (λ b. All Q (cond b keys (keys ++ key ∷ []))) [ true ↦ a | false ↦ All-push Q keys key a h ]
+  noticed_all : (key : K) (keys : List K) → AllByRecursion Q keys → Q key → AllByRecursion Q (noticed same key keys)
+  noticed_all key keys a h = elim (ltb (place same key keys) (length keys)) as (λ b. AllByRecursion Q (cond b keys (keys ++ key ∷ []))) [ true ↦ a | false ↦ All-push Q keys key a h ]
 
-  distinct_all : (seen : List K) (rows : List (Row K)) → All Q seen → All (λ r. Q r.key) rows → All Q (distinct same seen rows)
+  distinct_all : (seen : List K) (rows : List (Row K)) → AllByRecursion Q seen → AllByRecursion (λ r. Q r.key) rows → AllByRecursion Q (distinct same seen rows)
   distinct_all seen [] a h = a
   distinct_all seen (r ∷ rows) a h = distinct_all (noticed same r.key seen) rows (noticed_all r.key seen a h.0) h.1
 
@@ -49,7 +49,7 @@ module _ {K R P : Type 0} (s : Settings K R P) where
 
 module _ {K R P : Type 0} (s : Settings K R P) (l : Lawful s.kind) where
   -- the front of the book, where a key has ended once the last key has passed it
-  pub front_ripe : (b : Book K) (v : View K R P) → b.finished ≡ false → v.last ≡ last_key None b.rows → All (λ u. over s v.last u.row.key ≡ false) (in_turn s b)
+  pub front_ripe : (b : Book K) (v : View K R P) → b.finished ≡ false → v.last ≡ last_key None b.rows → AllByRecursion (λ u. over s v.last u.row.key ≡ false) (in_turn s b)
       → front s b ≡ prefix_len (ripe s b.rows v.last) (in_turn s b)
   front_ripe b v unfinished is under = leading_cong _ _ _ (All-weaker _ (λ u. settled_row s b u ≡ ripe s b.rows v.last u) (book_ripe s l b v.last unfinished is) _ under)
 
@@ -84,7 +84,7 @@ module _ {K R P : Type 0} (s : Settings K R P) (th : Theory s.figures) (l : Lawf
         (λ e q h. above_same s.kind l s.mode v.last e.key key h q.under) v.tables.held g.mid.entries lt in
         book_ended s l b v.last g.book_open g.last key under ∙ found_live s l v.last v.tables.held g.named.alive key lt
 
-    each_due : All (λ w. standing w ≡ as_due s b (tag w)) v.tables.waiting
+    each_due : AllByRecursion (λ w. standing w ≡ as_due s b (tag w)) v.tables.waiting
     each_due =
         All-weaker (Waits s th b.rows v.last b.rows v.last v.tables.held) _
         (λ w q.
@@ -95,8 +95,8 @@ module _ {K R P : Type 0} (s : Settings K R P) (th : Theory s.figures) (l : Lawf
 
     keys_open : map (λ e. e.key) v.tables.held ≡ open_keys s b
     keys_open =
-        let under : All (λ r. over s v.last r.key ≡ false) b.rows =
-        subst (All (λ r. over s v.last r.key ≡ false)) (ranked_rows s.kind.same [] b.rows) (All-map (λ r. over s v.last r.key ≡ false) (λ u. u.row) (in_turn s b) g.mid.under) in
+        let under : AllByRecursion (λ r. over s v.last r.key ≡ false) b.rows =
+        subst (AllByRecursion (λ r. over s v.last r.key ≡ false)) (ranked_rows s.kind.same [] b.rows) (All-map (λ r. over s v.last r.key ≡ false) (λ u. u.row) (in_turn s b) g.mid.under) in
         g.named.names
         ∙ kept_cong (λ key. not (gone s v.last key)) (λ key. not (ended s b key)) (distinct s.kind.same [] b.rows)
         (All-weaker (λ key. over s v.last key ≡ false) _ (λ key h. ap not (sym (book_ended s l b v.last g.book_open g.last key h)))

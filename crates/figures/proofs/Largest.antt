@@ -1,6 +1,6 @@
 -- The largest of a number over the figures of a set is what its name says.
 use Rattle.std.proofs.Common.{◌≡◌, ℕ, ◌<◌, ◌≤◌, max, ◌⊎◌, List, [], ◌∷◌, map, fold, sym, refl, subst, inl, inr, ⊎_elim, arith}
-use Rattle.std.specs.List.{ContainsAt as Has, AllByRecursion as All}
+use Rattle.std.specs.List.{ContainsAt, AllByRecursion}
 use Rattle.std.proofs.ByRecursion.{has_get_or, has_append_right}
 use Rattle.std.proofs.lemmas.Bool.{cases_lt}
 use Rattle.figures.specs.declared.set.FigureSet.{FigureSet}
@@ -15,28 +15,28 @@ module _ {F : Type 0} (n : F → ℕ) where
   from_start m [] = omega arith
   from_start m (f ∷ fs) = omega (arith, from_start (max m (n f)) fs)
 
-  covers_all : (m : ℕ) (fs : List F) → All (λ f. n f ≤ most m fs) fs
+  covers_all : (m : ℕ) (fs : List F) → AllByRecursion (λ f. n f ≤ most m fs) fs
   covers_all m [] = tt
   covers_all m (f ∷ fs) = (omega (arith, from_start (max m (n f)) fs), covers_all (max m (n f)) fs)
 
-  here : (f : F) (fs : List F) (k : ℕ) → k ≡ n f → Has (map n (f ∷ fs)) k
-  here f fs k e = subst (Has (map n (f ∷ fs))) (sym e) (has_get_or (map n (f ∷ fs)) 0 0 (omega arith))
+  here : (f : F) (fs : List F) (k : ℕ) → k ≡ n f → ContainsAt (map n (f ∷ fs)) k
+  here f fs k e = subst (ContainsAt (map n (f ∷ fs))) (sym e) (has_get_or (map n (f ∷ fs)) 0 0 (omega arith))
 
   -- the start, or one of theirs
-  reached_from : (m : ℕ) (fs : List F) → (most m fs ≡ m) ⊎ Has (map n fs) (most m fs)
+  reached_from : (m : ℕ) (fs : List F) → (most m fs ≡ m) ⊎ ContainsAt (map n fs) (most m fs)
   reached_from m [] = inl refl
   reached_from m (f ∷ fs) =
       let k : ℕ = most (max m (n f)) fs in
       ⊎_elim
       (λ (e : most (max m (n f)) fs ≡ max m (n f)).
       ⊎_elim (λ (l : m < n f). inr (here f fs k (omega arith))) (λ (l : n f ≤ m). inl (omega arith)) (cases_lt m (n f)))
-      (λ (h : Has (map n fs) (most (max m (n f)) fs)). inr (has_append_right (n f ∷ []) (map n fs) k h))
+      (λ (h : ContainsAt (map n fs) (most (max m (n f)) fs)). inr (has_append_right (n f ∷ []) (map n fs) k h))
       (reached_from (max m (n f)) fs)
 
   is_largest : (f : F) (fs : List F) → IsLargest n (f ∷ fs) (largest n (f ∷ fs))
   is_largest f fs =
       record {
-        reached = ⊎_elim (λ (e : largest n (f ∷ fs) ≡ 0). here f fs (largest n (f ∷ fs)) (omega (arith, (covers_all 0 (f ∷ fs)).0))) (λ (h : Has (map n (f ∷ fs)) (largest n (f ∷ fs))). h) (reached_from 0 (f ∷ fs));
+        reached = ⊎_elim (λ (e : largest n (f ∷ fs) ≡ 0). here f fs (largest n (f ∷ fs)) (omega (arith, (covers_all 0 (f ∷ fs)).0))) (λ (h : ContainsAt (map n (f ∷ fs)) (largest n (f ∷ fs))). h) (reached_from 0 (f ∷ fs));
         covers = covers_all 0 (f ∷ fs);
       }
 

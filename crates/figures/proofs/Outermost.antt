@@ -1,6 +1,6 @@
 -- The lowest and the highest: row by row they are those of the numbers, and these are what their names say.
 use Rattle.std.proofs.Common.{◌≡◌, ◌⊎◌, List, [], ◌∷◌, ◌++◌, ℤ, fold, sym, refl, subst, ⊎_elim, arith}
-use Rattle.std.specs.List.{ContainsAt as Has, AllByRecursion as All}
+use Rattle.std.specs.List.{ContainsAt, AllByRecursion}
 use Rattle.std.proofs.ByRecursion.{has_get_or, has_append_right, folded_min_z_bounds, folded_min_z_reached, folded_max_z_bounds, folded_max_z_reached}
 use Rattle.figures.specs.declared.cells.Cell.{Cell}
 use Rattle.figures.specs.declared.cells.Cell.TheVariants.{Absent, Number}
@@ -29,15 +29,15 @@ module _ (e : Extreme) (c : Column) where
         | Number y ↦ extreme_from y rows
       ]
 
-one_of : (x : ℤ) (xs : List ℤ) (m : ℤ) → (m ≡ x) ⊎ Has xs m → Has (x ∷ xs) m
+one_of : (x : ℤ) (xs : List ℤ) (m : ℤ) → (m ≡ x) ⊎ ContainsAt xs m → ContainsAt (x ∷ xs) m
 one_of x xs m h =
-    ⊎_elim (λ (e : m ≡ x). subst (Has (x ∷ xs)) (sym e) (has_get_or (x ∷ xs) 0 x (omega arith))) (λ (k : Has xs m). has_append_right (x ∷ []) xs m k) h
+    ⊎_elim (λ (e : m ≡ x). subst (ContainsAt (x ∷ xs)) (sym e) (has_get_or (x ∷ xs) 0 x (omega arith))) (λ (k : ContainsAt xs m). has_append_right (x ∷ []) xs m k) h
 
-reached : (e : Extreme) (x : ℤ) (xs : List ℤ) → (fold (further e) x xs ≡ x) ⊎ Has xs (fold (further e) x xs)
+reached : (e : Extreme) (x : ℤ) (xs : List ℤ) → (fold (further e) x xs ≡ x) ⊎ ContainsAt xs (fold (further e) x xs)
 reached Least x xs = folded_min_z_reached x xs _ refl
 reached Greatest x xs = folded_max_z_reached x xs _ refl
 
-bounds : (e : Extreme) (x : ℤ) (xs : List ℤ) → All (Within e (fold (further e) x xs)) (x ∷ xs)
+bounds : (e : Extreme) (x : ℤ) (xs : List ℤ) → AllByRecursion (Within e (fold (further e) x xs)) (x ∷ xs)
 bounds Least x xs = folded_min_z_bounds x xs _ refl
 bounds Greatest x xs = folded_max_z_bounds x xs _ refl
 

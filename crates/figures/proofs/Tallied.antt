@@ -2,7 +2,7 @@
 use Rattle.std.proofs.Common.{◌≡◌, ℕ, suc, ◌*◌, ◌^◌, ◌<◌, ◌≤◌, ltb, List, [], ◌∷◌, ◌++◌, length, ℤ, pos, negsuc, ◌+ℤ◌, neg_ℤ, ◌≤ℤ◌, fold, sym, refl, ap, ◌∙◌, subst, ⊎_elim, arith, length-append, w32, w64, SFits}
 use lib.IntN.{+ℤ_assoc, +ℤ_idl, +ℤ_idr}
 use lib.Signed.{quot_z}
-use Rattle.std.specs.List.{AllByRecursion as All}
+use Rattle.std.specs.List.{AllByRecursion}
 use Rattle.std.specs.Int.{int_wrap}
 use Rattle.std.proofs.ByRecursion.{All-get_or, All-append}
 use Rattle.std.proofs.lemmas.List.{get_or_past}
@@ -57,17 +57,17 @@ fresh_tally c rows =
 
 -- then exactly: the sum of fewer than 2 ^ 32 numbers of 32 bits has 64 bits, so that nothing wraps
 
-cell_fits : (c : Column) (cells : List Cell) → All CellFits cells → CellFits (cell c cells)
+cell_fits : (c : Column) (cells : List Cell) → AllByRecursion CellFits cells → CellFits (cell c cells)
 cell_fits c cells h =
     ⊎_elim (λ (in' : place c < length cells). All-get_or CellFits cells (place c) Absent in' h)
     (λ (past : length cells ≤ place c). subst CellFits (sym (get_or_past cells (place c) Absent past)) tt)
     (cases_lt (place c) (length cells))
 
-present_fits : (x : Cell) → CellFits x → All (SFits w32) (present x)
+present_fits : (x : Cell) → CellFits x → AllByRecursion (SFits w32) (present x)
 present_fits Absent h = tt
 present_fits (Number x) h = (h, tt)
 
-numbers_fit : (c : Column) (rows : List (List Cell)) → RowsFit rows → All (SFits w32) (numbers c rows)
+numbers_fit : (c : Column) (rows : List (List Cell)) → RowsFit rows → AllByRecursion (SFits w32) (numbers c rows)
 numbers_fit c [] h = tt
 numbers_fit c (row ∷ rows) h =
     All-append (SFits w32) (present (cell c row)) (numbers c rows) (present_fits (cell c row) (cell_fits c row h.0)) (numbers_fit c rows h.1)
@@ -79,7 +79,7 @@ numbers_le c (row ∷ rows) =
     elim (cell c row) as (λ x. length (present x ++ numbers c rows) ≤ suc (length rows)) [ Absent ↦ omega arith | Number x ↦ omega arith ]
 
 -- at most 2 ^ 31 for each number, up or down
-total_within : (ns : List ℤ) → All (SFits w32) ns → (neg_ℤ (pos (length ns * 2147483648)) ≤ℤ total ns) × (total ns ≤ℤ pos (length ns * 2147483648))
+total_within : (ns : List ℤ) → AllByRecursion (SFits w32) ns → (neg_ℤ (pos (length ns * 2147483648)) ≤ℤ total ns) × (total ns ≤ℤ pos (length ns * 2147483648))
 total_within [] h = (omega (arith, ints), omega (arith, ints))
 total_within (x ∷ xs) h =
     let f = h.0 in
@@ -87,7 +87,7 @@ total_within (x ∷ xs) h =
     let high = (total_within xs h.1).1 in
     (omega (arith, ints), omega (arith, ints))
 
-total_fits : (ns : List ℤ) → length ns < 2 ^ 32 → All (SFits w32) ns → SFits w64 (total ns)
+total_fits : (ns : List ℤ) → length ns < 2 ^ 32 → AllByRecursion (SFits w32) ns → SFits w64 (total ns)
 total_fits ns few h =
     let low = (total_within ns h).0 in
     let high = (total_within ns h).1 in

@@ -1,7 +1,7 @@
 -- A row's cells, and the numbers that stand in a column of some rows.
 use Rattle.std.specs.Prelude.{List, [], ◌∷◌, ◌++◌, ℤ, Some, None, Option, FitsSigned, slice_index_or}
 use Rattle.std.specs.Int.{w32}
-use Rattle.std.specs.List.{AllByRecursion as All}
+use Rattle.std.specs.List.{AllByRecursion}
 use Rattle.figures.specs.declared.cells.Cell.{Cell}
 use Rattle.figures.specs.declared.cells.Cell.TheVariants.{Absent, Number}
 use Rattle.figures.specs.declared.cells.Column.{Column}
@@ -39,4 +39,4 @@ CellFits Absent = Unit {0}
 CellFits (Number x) = FitsSigned w32 x
 
 abbrev pub RowsFit : List (List Cell) → Type 0
-RowsFit rows = All (λ cells. All CellFits cells) rows
+RowsFit rows = AllByRecursion (λ cells. AllByRecursion CellFits cells) rows

@@ -1,6 +1,6 @@
 -- The letters' lines: each letter's result in the words of SQL (ISO/IEC 9075-2, frames in ROWS), over the whole partition, which is the list of all the rows of a key. An absent cell is a null: the aggregates leave it out, and the others respect it.
 use Rattle.std.specs.Prelude.{◌≡◌, ℕ, suc, ◌+◌, ◌-◌, ◌/◌, ◌^◌, ◌<◌, Bool, cond, ◌&&◌, leb, List, [], ◌∷◌, length, ℤ, pos, negsuc, ◌+ℤ◌, neg_ℤ, ◌≤ℤ◌, Some, None, fold, Option, nat_le}
-use Rattle.std.specs.List.{ContainsAt as Has, AllByRecursion as All, slice_get}
+use Rattle.std.specs.List.{ContainsAt, AllByRecursion, slice_get}
 use Rattle.figures.specs.declared.cells.Cell.{Cell}
 use Rattle.figures.specs.declared.cells.Column.{Column}
 use Rattle.figures.specs.declared.cells.Outcome.{Outcome}
@@ -97,7 +97,7 @@ Within Greatest m y = y ≤ℤ m
 -- missing of no number; else one of them, and none lies beyond it
 abbrev pub IsExtreme : Extreme → List ℤ → Outcome → Type 0
 IsExtreme e [] o = o ≡ Missing
-IsExtreme e (x ∷ xs) o = (m : ℤ) × (o ≡ Value m) × Has (x ∷ xs) m × All (Within e m) (x ∷ xs)
+IsExtreme e (x ∷ xs) o = (m : ℤ) × (o ≡ Value m) × ContainsAt (x ∷ xs) m × AllByRecursion (Within e m) (x ∷ xs)
 
 abbrev pub ExtremesHold : Type 0
 ExtremesHold = (e : Extreme) (ns : List ℤ) → IsExtreme e ns (extreme_of e ns)

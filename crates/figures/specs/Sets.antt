@@ -1,6 +1,6 @@
 -- The figures of a set, in their order.
 use Rattle.std.specs.Prelude.{ℕ, ◌≤◌, max, List, [], ◌∷◌, map, fold}
-use Rattle.std.specs.List.{ContainsAt as Has, AllByRecursion as All}
+use Rattle.std.specs.List.{ContainsAt, AllByRecursion}
 use Rattle.figures.specs.declared.set.FigureSet.{FigureSet}
 use Rattle.figures.specs.declared.set.FigureSet.TheVariants.{One, Two, Three, Four}
 
@@ -16,5 +16,5 @@ largest n fs = fold (λ m f. max m (n f)) 0 fs
 
 -- it is one of theirs, and no figure has more
 pub record IsLargest {F : Type 0} (n : F → ℕ) (fs : List F) (m : ℕ) : Type 0 where
-  pub reached : Has (map n fs) m
-  pub covers : All (λ f. n f ≤ m) fs
+  pub reached : ContainsAt (map n fs) m
+  pub covers : AllByRecursion (λ f. n f ≤ m) fs

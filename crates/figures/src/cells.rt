@@ -1,6 +1,6 @@
 // A row's cells, and what a figure answers.
 ghost use Rattle.std.specs.Prelude.{◌≡◌};
-ghost use Rattle.std.specs.List.{AllByRecursion as All};
+ghost use Rattle.std.specs.List.{AllByRecursion};
 ghost use Rattle.figures.specs.Cells.{cell, shown, CellFits, RowsFit};
 ghost use Rattle.figures.specs.Named.{place, Names};
 
@@ -73,7 +73,7 @@ fn cell_fits(cell: Cell)
 
 // The cells of a row that a program holds are numbers of 32 bits.
 pub fn row_fits(cells: &[Cell; 4])
-    ensures { All CellFits cells.now }
+    ensures { AllByRecursion CellFits cells.now }
 {
     for cell in cells {
         cell_fits(*cell);

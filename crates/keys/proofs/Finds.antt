@@ -1,6 +1,6 @@
 -- The search for a key: place by place, and what its answer means.
-use Rattle.std.proofs.Common.{◌≡◌, ℕ, ◌+◌, ◌<◌, Bool, true, false, cond, List, [], ◌∷◌, ◌++◌, length, get_or, drop, Some, Option, sym, refl, ap, ◌∙◌, subst, append_assoc, arith}
-use Rattle.std.specs.List.{AllByRecursion as All}
+use Rattle.std.proofs.Common.{◌≡◌, ℕ, ◌+◌, ◌<◌, Bool, true, false, cond, List, [], ◌∷◌, ◌++◌, length, get_or, drop, Some, Option, sym, refl, ap, ◌∙◌, subst, append_assoc}
+use Rattle.std.specs.List.{AllByRecursion}
 use Rattle.std.proofs.ByRecursion.{All-push}
 use Rattle.std.proofs.lemmas.List.{drop_more, append-nil, length_push}
 use Rattle.std.proofs.lemmas.Bool.{cond-true, cond-false, cond_both}
@@ -19,7 +19,7 @@ module _ {K : Type 0} (same : K → K → Bool) (key : K) where
     goes_on not_here = at_place ∙ cond-false (same x key) (Some i) _ not_here
 
   -- behind n keys that are not the same
-  first_behind : (earlier xs : List K) (n : ℕ) → length earlier ≡ n → All (λ x. same x key ≡ false) earlier → FirstSame same key (earlier ++ xs) (first_same_from same key n xs)
+  first_behind : (earlier xs : List K) (n : ℕ) → length earlier ≡ n → AllByRecursion (λ x. same x key ≡ false) earlier → FirstSame same key (earlier ++ xs) (first_same_from same key n xs)
   first_behind earlier [] n long none = rw (append-nil earlier) none
   first_behind earlier (x ∷ xs) n long none =
       cond_both (same x key) (Some n) (first_same_from same key (n + 1) xs) (FirstSame same key (earlier ++ (x ∷ xs)))

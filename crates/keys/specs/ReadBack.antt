@@ -1,7 +1,7 @@
 -- What is read as a key is that key's written form.
 use Rattle.std.specs.Prelude.{◌≡◌, ℕ, ◌<◌, Bool, true, false, cond, List, ◌++◌, length, drop, Some, None, Option, ◌==◌, refl}
-use Rattle.std.proofs.Common.{sym, ap, ◌∙◌, arith}
-use Rattle.std.specs.List.{AllByRecursion as All}
+use Rattle.std.proofs.Common.{sym, ◌∙◌, arith}
+use Rattle.std.specs.List.{AllByRecursion}
 use Rattle.std.proofs.lemmas.List.{drop_all}
 use Rattle.std.proofs.lemmas.Bool.{eqb-true}
 use Rattle.raw_bytes.specs.Numbers.{little_endian, two_bytes}
@@ -18,14 +18,14 @@ pub cond_some : {X : Type 0} (t : Bool) (o : Option X) (x : X) → cond t o None
 cond_some true o x h = (refl, h)
 cond_some false o x h = absurd (none_some h)
 
-pub berth_only_written : (bytes : List ℕ) (x : Berth) → All (λ b. b < 256) bytes → berth_from bytes ≡ Some x → two_bytes x.0 ≡ bytes
+pub berth_only_written : (bytes : List ℕ) (x : Berth) → AllByRecursion (λ b. b < 256) bytes → berth_from bytes ≡ Some x → two_bytes x.0 ≡ bytes
 berth_only_written bytes x fit h =
     let p = cond_some (length bytes == 2) _ x h in
     let long : length bytes ≡ 2 = eqb-true (length bytes) 2 p.0 in
     let number : little_endian 2 bytes 0 ≡ x.0 = cc p.1 in
     sym (written_back bytes 0 fit (omega arith) ∙ (λ i. two_bytes (number i) ++ drop_all 2 bytes (omega arith) i))
 
-pub route_berth_only_written : (bytes : List ℕ) (x : RouteBerth) → All (λ b. b < 256) bytes → route_berth_from bytes ≡ Some x → route_berth_bytes x ≡ bytes
+pub route_berth_only_written : (bytes : List ℕ) (x : RouteBerth) → AllByRecursion (λ b. b < 256) bytes → route_berth_from bytes ≡ Some x → route_berth_bytes x ≡ bytes
 route_berth_only_written bytes x fit h =
     let p = cond_some (length bytes == 4) _ x h in
     let long : length bytes ≡ 4 = eqb-true (length bytes) 4 p.0 in

@@ -4,7 +4,7 @@ ghost use Rattle.std.specs.Prelude.{◌≡◌, ℕ, ◌<◌, ◌≤◌, Bool, tr
 ghost use Rattle.std.specs.declared.cmp.Ordering.TheVariants.{Equal};
 ghost use Rattle.std.specs.declared.cmp.Ordering.{Ordering as Rank};
 ghost use Rattle.std.specs.Ordering.{is_eq};
-ghost use Rattle.std.specs.List.{AllByRecursion as All};
+ghost use Rattle.std.specs.List.{AllByRecursion};
 ghost use Rattle.raw_bytes.specs.Writing.{Wrote};
 ghost use Rattle.keys.specs.Laws.{Equality, Ranking};
 
@@ -90,5 +90,5 @@ pub trait JournalKey: OrderedKey {
 
     ghost sized: { (x : Self) → length (Self.Key.written x) ≡ width };
 
-    ghost only: { (bytes : List ℕ) (x : Self) → All (λ b. b < 256) bytes → Self.Key.parsed bytes ≡ Some x → Self.Key.written x ≡ bytes };
+    ghost only: { (bytes : List ℕ) (x : Self) → AllByRecursion (λ b. b < 256) bytes → Self.Key.parsed bytes ≡ Some x → Self.Key.written x ≡ bytes };
 }

@@ -1,5 +1,5 @@
 // Berths on a route.
-ghost use Rattle.std.specs.Prelude.{◌≡◌, ◌+◌, ◌*◌};
+ghost use Rattle.std.specs.Prelude.{◌≡◌, ℕ, ◌+◌, ◌*◌};
 ghost use Rattle.keys.specs.Routes.{same_route_berth, route_order, route_berth_order, route_berth_bytes, route_berth_from, shown_route_berth};
 ghost use Rattle.std.specs.Cmp.{nat_eq_equiv, and_equiv, on_equiv, nat_cmp_total, then_total, on_total};
 ghost use Rattle.keys.specs.Pulled.{pulled_equality, pulled_ranking};
@@ -27,7 +27,7 @@ impl Key for RouteBerth {
 
     ghost parsed = { route_berth_from };
 
-    ghost equality = { pulled_equality (λ x. (x.route, x.berth)) (and_equiv (on_equiv (λ p. p.0) nat_eq_equiv) (on_equiv (λ p. p.1) nat_eq_equiv)) };
+    ghost equality = { pulled_equality {E = ℕ × ℕ} (λ x. (x.route, x.berth)) (and_equiv (on_equiv (λ p. p.0) nat_eq_equiv) (on_equiv (λ p. p.1) nat_eq_equiv)) };
 
     ghost agree = { Prim.search rules };
 
@@ -65,7 +65,7 @@ impl OrderedKey for RouteBerth {
 
     ghost parts = { route_order };
 
-    ghost ranked = { pulled_ranking (λ x. (x.route, x.berth)) (then_total (on_total (λ p. p.0) nat_cmp_total) (on_total (λ p. p.1) nat_cmp_total)) };
+    ghost ranked = { pulled_ranking {E = ℕ × ℕ} (λ x. (x.route, x.berth)) (then_total (on_total (λ p. p.0) nat_cmp_total) (on_total (λ p. p.1) nat_cmp_total)) };
 
     ghost sorted = { pulled_ranking (λ x. x.route) nat_cmp_total };
 

@@ -1,7 +1,7 @@
 -- Numbers in bytes: their halves, and places past the end.
 use Rattle.std.proofs.Common.{◌≡◌, ℕ, zero, suc, ◌+◌, ◌-◌, ◌*◌, ◌/◌, ◌%◌, ◌^◌, ◌<◌, ◌≤◌, min, List, ◌∷◌, ◌++◌, length, get_or, drop, sym, refl, ap, ◌∙◌, ⊎_elim, mul_assoc, arith}
 use native.Mathlib.Nat.{pow-succ'}
-use Rattle.std.specs.List.{AllByRecursion as All}
+use Rattle.std.specs.List.{AllByRecursion}
 use Rattle.std.proofs.lemmas.List.{get_or_past, get_or-append-add, drop_more}
 use Rattle.std.proofs.ByRecursion.{All-get_or}
 use Rattle.std.proofs.lemmas.Bool.{cases_lt}
@@ -46,7 +46,7 @@ read_back before n behind =
     let place : little_endian 2 (before ++ (two_bytes n ++ behind)) (length before + 0) ≡ n % 256 + 256 * (n / 256 + 0) = little_endian_behind 2 before (two_bytes n ++ behind) 0 in
     ap (little_endian 2 (before ++ (two_bytes n ++ behind))) (sym start) ∙ place ∙ omega arith
 
-pub written_back : (bytes : List ℕ) (at : ℕ) → All (λ b. b < 256) bytes → at + 2 ≤ length bytes → drop at bytes ≡ two_bytes (little_endian 2 bytes at) ++ drop (at + 2) bytes
+pub written_back : (bytes : List ℕ) (at : ℕ) → AllByRecursion (λ b. b < 256) bytes → at + 2 ≤ length bytes → drop at bytes ≡ two_bytes (little_endian 2 bytes at) ++ drop (at + 2) bytes
 written_back bytes at fit h =
     let low : get_or bytes at 0 < 256 = All-get_or (λ b. b < 256) bytes at 0 (omega arith) fit in
     let high : get_or bytes (at + 1) 0 < 256 = All-get_or (λ b. b < 256) bytes (at + 1) 0 (omega arith) fit in

@@ -1,6 +1,6 @@
 -- Little-endian numbers in bytes: the lower byte stands first. A byte past the end counts as 0.
 use Rattle.std.specs.Prelude.{◌≡◌, ℕ, zero, suc, ◌+◌, ◌-◌, ◌*◌, ◌/◌, ◌%◌, ◌<◌, ◌≤◌, cond, List, [], ◌∷◌, ◌++◌, length, drop, ℤ, pos, negsuc, nat_lt, slice_index}
-use Rattle.std.specs.List.{AllByRecursion as All}
+use Rattle.std.specs.List.{AllByRecursion}
 
 -- the number that the bytes from a place on spell, so many of them
 abbrev pub little_endian : ℕ → List ℕ → ℕ → ℕ
@@ -20,4 +20,4 @@ pub record NumberLaws : Type 0 where
   -- a number that stands as two bytes anywhere among others is read back from its place
   pub read_back : (before : List ℕ) (n : ℕ) (behind : List ℕ) → little_endian 2 (before ++ (two_bytes n ++ behind)) (length before) ≡ n
   -- two bytes anywhere are those of the number that is read there
-  pub written_back : (bytes : List ℕ) (at : ℕ) → All (λ b. b < 256) bytes → at + 2 ≤ length bytes → drop at bytes ≡ two_bytes (little_endian 2 bytes at) ++ drop (at + 2) bytes
+  pub written_back : (bytes : List ℕ) (at : ℕ) → AllByRecursion (λ b. b < 256) bytes → at + 2 ≤ length bytes → drop at bytes ≡ two_bytes (little_endian 2 bytes at) ++ drop (at + 2) bytes

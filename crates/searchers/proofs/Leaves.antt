@@ -1,6 +1,6 @@
 -- The scan over waiting rows.
 use Rattle.std.proofs.Common.{◌≡◌, ℕ, zero, suc, ◌+◌, ◌<◌, max, Bool, true, false, cond, ◌&&◌, ltb, ◌⊎◌, List, [], ◌∷◌, length, get_or, drop, Some, None, Decides, fold, Option, sym, refl, ap, ◌∙◌, subst, inl, inr, add-one, one-add, arith}
-use Rattle.std.specs.List.{prefix_len, AllByRecursion as All, slice_get}
+use Rattle.std.specs.List.{prefix_len, AllByRecursion, slice_get}
 use Rattle.std.proofs.lemmas.List.Sums.{prefix_len-le-length, prefix_len-drop_yes, prefix_len-drop_no}
 use Rattle.std.proofs.lemmas.Bool.{both_ways, false≢true}
 use Rattle.std.proofs.lemmas.Bool.Decides.{nat_tests, Decides-ltb}
@@ -77,12 +77,12 @@ module _ {X : Type 0} (p : X → Bool) where
   leading_stop (x ∷ xs) d l = stop_on x xs (p x) refl d l (leading_stop xs d)
 
 module _ {F : Type 0} (ahead : F → ℕ) (fs : List F) where
-  each_decides : (rank rows : ℕ) → Decides (by_each ahead fs rank rows) (All (λ f. rank + ahead f < rows) fs)
+  each_decides : (rank rows : ℕ) → Decides (by_each ahead fs rank rows) (AllByRecursion (λ f. rank + ahead f < rows) fs)
   each_decides rank rows =
       Decides-by_and (λ f. ltb (rank + ahead f) rows) (λ f. rank + ahead f < rows) (λ xs. by_each ahead xs rank rows) (λ f. Decides-ltb (rank + ahead f) rows) refl (λ _ _. refl) fs
 
   abbrev SettledAt : {K P : Type 0} → ℕ → Option (Option (Held K P)) → Type 0
-  SettledAt {K} {P} rank place = (h : Held K P) × (place ≡ Some (Some h)) × ((h.ended ≡ true) ⊎ All (λ f. rank + ahead f < h.rows) fs)
+  SettledAt {K} {P} rank place = (h : Held K P) × (place ≡ Some (Some h)) × ((h.ended ≡ true) ⊎ AllByRecursion (λ f. rank + ahead f < h.rows) fs)
 
   held_decides : {K P : Type 0} (rank : ℕ) (h : Held K P) (b : Bool) → h.ended ≡ b → Decides (settled_as (by_each ahead fs) (cond b Ended (Open rank h.rows))) (SettledAt rank (Some (Some h)))
   held_decides {K} {P} rank h true e = (λ _. (h, refl, inl e), λ _. refl)
@@ -90,7 +90,7 @@ module _ {F : Type 0} (ahead : F → ℕ) (fs : List F) where
     λ d. (h, refl, inr ((each_decides rank h.rows).0 d)),
     λ s.
         (let is : s.0 ≡ h = let found = s.1 in cc in
-        elim (subst (λ (x : Held K P). (x.ended ≡ true) ⊎ All (λ f. rank + ahead f < x.rows) fs) is s.2) [ inl t ↦ absurd (both_ways _ e t) | inr all ↦ (each_decides rank h.rows).1 all ]),
+        elim (subst (λ (x : Held K P). (x.ended ≡ true) ⊎ AllByRecursion (λ f. rank + ahead f < x.rows) fs) is s.2) [ inl t ↦ absurd (both_ways _ e t) | inr all ↦ (each_decides rank h.rows).1 all ]),
   )
 
   place_decides : {K P : Type 0} (rank : ℕ) (place : Option (Option (Held K P))) → Decides (settled_as (by_each ahead fs) (standing_at rank place)) (SettledAt rank place)

@@ -3,7 +3,7 @@ use Rattle.std.proofs.Common.{◌≡◌, ℕ, suc, ◌+◌, ◌-◌, ◌<◌, �
 use Rattle.keys.specs.Laws.{Equality, Ranking}
 use Rattle.keys.specs.Pulled.{tie_is_equal}
 use Rattle.std.specs.Ordering.{is_eq, is_lt, ordering_reverse}
-use Rattle.std.specs.List.{AllByRecursion as All}
+use Rattle.std.specs.List.{AllByRecursion}
 use Rattle.std.proofs.ByRecursion.{All-push, All-weaker}
 use Rattle.std.proofs.lemmas.List.{append-nil, length_push, length-set, length-take-le, take_more_set}
 use Rattle.std.proofs.lemmas.Bool.{lt-ltb, le-ltb}
@@ -15,7 +15,7 @@ use Rattle.searchers.proofs.Padded.{padded_more}
 use Rattle.searchers.proofs.Places.{noticed_new, noticed_old}
 
 -- behind keys that are not the same
-place_behind : {K : Type 0} (same : K → K → Bool) (key : K) (older rest : List K) → All (λ x. same x key ≡ false) older → place same key (older ++ rest) ≡ length older + place same key rest
+place_behind : {K : Type 0} (same : K → K → Bool) (key : K) (older rest : List K) → AllByRecursion (λ x. same x key ≡ false) older → place same key (older ++ rest) ≡ length older + place same key rest
 place_behind same key [] rest none = omega arith
 place_behind same key (x ∷ older) rest none =
     ap (λ b. cond b 0 (suc (place same key (older ++ rest)))) none.0 ∙ ap suc (place_behind same key older rest none.1) ∙ omega arith
@@ -27,7 +27,7 @@ module _ {K : Type 0} (same : K → K → Bool) (order : K → K → Ordering) w
   -- the different keys seen, and the last row's key: it ties with the last of them, and the others are below it
   abbrev pub Trail : List K → Option K → Type 0
   Trail seen None = seen ≡ []
-  Trail seen (Some last) = (older : List K) × (s : K) × (seen ≡ older ++ (s ∷ [])) × (order s last ≡ Equal) × All (λ x. order x last ≡ Less) older
+  Trail seen (Some last) = (older : List K) × (s : K) × (seen ≡ older ++ (s ∷ [])) × (order s last ≡ Equal) × AllByRecursion (λ x. order x last ≡ Less) older
 
   -- what holds of a batch without a fall after i rows
   pub record Sorting (keys : List K) (before : Option K) (ids firsts : List ℕ) (count i : ℕ) : Type 0 where
@@ -58,10 +58,10 @@ module _ {K : Type 0} (same : K → K → Bool) (order : K → K → Ordering) w
     itself : (key : K) → order key key ≡ Equal
     itself key = tie_is_equal _ (ties key key ∙ equality.itself key)
 
-    all_under : (seen : List K) (before : Option K) (key : K) → Trail seen before → rise order before key ≡ Greater → All (λ x. order x key ≡ Less) seen
-    all_under seen None key t g = subst (All (λ x. order x key ≡ Less)) (sym t) tt
+    all_under : (seen : List K) (before : Option K) (key : K) → Trail seen before → rise order before key ≡ Greater → AllByRecursion (λ x. order x key ≡ Less) seen
+    all_under seen None key t g = subst (AllByRecursion (λ x. order x key ≡ Less)) (sym t) tt
     all_under seen (Some last) key t g =
-        subst (All (λ x. order x key ≡ Less)) (sym t.2)
+        subst (AllByRecursion (λ x. order x key ≡ Less)) (sym t.2)
         (All-push (λ x. order x key ≡ Less) t.0 t.1 (All-weaker (λ x. order x last ≡ Less) (λ x. order x key ≡ Less) (λ x l. under x last key l g) t.0 t.4) (tied_under t.1 last key t.3 g))
 
     new_place : (seen : List K) (before : Option K) (key : K) → Trail seen before → rise order before key ≡ Greater → place same key seen ≡ length seen

@@ -2,7 +2,7 @@
 use Rattle.std.proofs.Common.{◌≡◌, ℕ, ◌+◌, Bool, true, false, cond, not, List, [], ◌∷◌, Some, None, Option, Ordering, Less, Equal, Greater, sym, refl, ap, ◌∙◌, inl, inr, arith}
 use Rattle.keys.specs.Laws.{Equality, Ranking}
 use Rattle.std.specs.Ordering.{is_eq, is_lt, is_ne, ordering_reverse}
-use Rattle.std.specs.List.{AllByRecursion as All}
+use Rattle.std.specs.List.{AllByRecursion}
 use Rattle.std.proofs.lemmas.Bool.{cases_Bool, both_ways}
 use Rattle.searchers.specs.declared.modes.Mode.{Mode}
 use Rattle.searchers.specs.declared.modes.Mode.TheVariants.{Sorted, PartlySorted, Linear}
@@ -76,7 +76,7 @@ module _ {K : Type 0} (same : K → K → Bool) (order parts : K → K → Order
   ended_is_lower PartlySorted last key e = differs parts sorted last key e
   ended_is_lower Linear last key e = refl
 
-  none_comes : (mode : Mode) (last key before : K) (i : ℕ) (keys : List K) → lower mode order parts key last ≡ true → lower mode order parts before last ≡ false → first_fall (lower mode order parts) (Some before) i keys ≡ None → All (λ k. same k key ≡ false) keys
+  none_comes : (mode : Mode) (last key before : K) (i : ℕ) (keys : List K) → lower mode order parts key last ≡ true → lower mode order parts before last ≡ false → first_fall (lower mode order parts) (Some before) i keys ≡ None → AllByRecursion (λ k. same k key ≡ false) keys
   none_comes mode last key before i [] l b p = tt
   none_comes mode last key before i (k ∷ keys) l b p =
       let head = passes_head _ _ _ p in

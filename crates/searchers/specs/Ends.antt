@@ -2,7 +2,7 @@
 use Rattle.std.specs.Prelude.{◌≡◌, Bool, true, false, not, List, Some, None, Option}
 use Rattle.std.specs.declared.cmp.Ordering.{Ordering}
 use Rattle.std.specs.Ordering.{is_ne}
-use Rattle.std.specs.List.{AllByRecursion as All}
+use Rattle.std.specs.List.{AllByRecursion}
 use Rattle.searchers.specs.declared.modes.Mode.{Mode}
 use Rattle.searchers.specs.declared.modes.Mode.TheVariants.{Sorted, PartlySorted, Linear}
 use Rattle.searchers.specs.declared.rows.Held.{Held}
@@ -24,7 +24,7 @@ abbrev pub EndedForGood : {K : Type 0} → (K → K → Bool) → (order parts :
 EndedForGood {K} same order parts =
     (mode : Mode) (last key : K) (keys : List K)
     → lower mode order parts last key ≡ false → ended_by mode same parts last key ≡ true → first_fall (lower mode order parts) (Some last) 0 keys ≡ None
-    → All (λ k. same k key ≡ false) keys
+    → AllByRecursion (λ k. same k key ≡ false) keys
 
 -- a held key, marked
 abbrev pub marked : {K P : Type 0} → (K → Bool) → Held K P → Held K P

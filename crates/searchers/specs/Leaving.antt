@@ -1,6 +1,6 @@
 -- Which waiting rows are settled, and how many leave: the longest front of them that is settled throughout.
 use Rattle.std.specs.Prelude.{◌≡◌, ℕ, ◌+◌, ◌<◌, ◌≤◌, Bool, true, false, cond, ◌&&◌, ◌⊎◌, List, [], ◌∷◌, length, Some, None, Option, nat_lt, slice_index_or}
-use Rattle.std.specs.List.{prefix_len, AllByRecursion as All, slice_get}
+use Rattle.std.specs.List.{prefix_len, AllByRecursion, slice_get}
 use Rattle.figures.specs.Sets.{largest}
 use Rattle.searchers.specs.declared.leaving.Standing.{Standing}
 use Rattle.searchers.specs.declared.leaving.Standing.TheVariants.{Nowhere, Ended, Open}
@@ -46,7 +46,7 @@ leaving due held waiting = prefix_len (settled due held) waiting
 abbrev pub Settled : {K R P F : Type 0} → (F → ℕ) → List F → List (Option (Held K P)) → Option (Waiting K R) → Type 0
 Settled ahead fs held None = ⊥
 Settled {K} {R} {P} ahead fs held (Some w) =
-    (h : Held K P) × (slice_get held w.place ≡ Some (Some h)) × ((h.ended ≡ true) ⊎ All (λ f. w.rank + ahead f < h.rows) fs)
+    (h : Held K P) × (slice_get held w.place ≡ Some (Some h)) × ((h.ended ≡ true) ⊎ AllByRecursion (λ f. w.rank + ahead f < h.rows) fs)
 
 -- n is the length of the longest front: each before n is so, and the one at n, if there is one, is not
 pub record LongestFront {X : Type 0} (So : X → Type 0) (xs : List X) (n : ℕ) : Type 0 where

@@ -1,6 +1,6 @@
 -- The rows out of a run over letters have each letter's line: the premises of that theorem hold of every run that is reached.
 use Rattle.std.proofs.Common.{◌≡◌, ℕ, suc, ◌+◌, ◌-◌, ◌^◌, ◌<◌, ◌≤◌, Bool, true, false, cond, not, List, [], ◌∷◌, ◌++◌, map, length, take, replicate, Some, None, Ok, Err, filter, Option, Result, sym, refl, ap, ◌∙◌, subst, arith}
-use Rattle.std.specs.List.{AllByRecursion as All}
+use Rattle.std.specs.List.{AllByRecursion}
 use Rattle.std.proofs.lemmas.List.Elements.{filter-append}
 use Rattle.std.proofs.ByRecursion.{All-append, All-map, all_kept_by, All-take, All-weaker}
 use Rattle.std.proofs.lemmas.List.{append_assoc, length-append, length-map}
@@ -34,30 +34,30 @@ use Rattle.stream.specs.Reached.{booked, lined, Reached, made, push, finish, Run
 use Rattle.stream.proofs.Passes.{passed}
 use Rattle.stream.proofs.Plays.{views_reached}
 
-map_same : {X Y : Type 0} (f g : X → Y) (xs : List X) → All (λ x. f x ≡ g x) xs → map f xs ≡ map g xs
+map_same : {X Y : Type 0} (f g : X → Y) (xs : List X) → AllByRecursion (λ x. f x ≡ g x) xs → map f xs ≡ map g xs
 map_same f g [] same = refl
 map_same f g (x ∷ xs) same = ap (λ y. y ∷ map f xs) same.0 ∙ ap (λ ys. g x ∷ ys) (map_same f g xs same.1)
 
-all_of : {X : Type 0} (P : X → Type 0) → ((x : X) → P x) → (xs : List X) → All P xs
+all_of : {X : Type 0} (P : X → Type 0) → ((x : X) → P x) → (xs : List X) → AllByRecursion P xs
 all_of P each [] = tt
 all_of P each (x ∷ xs) = (each x, all_of P each xs)
 
 -- a row's rank is below the number of its key's rows
 ranks_below : {K : Type 0} (same : K → K → Bool) → Equality same → (before rows : List (Row K))
-    → All (λ t. t.rank < length (rows_of same t.row.key (before ++ rows))) (ranked same before rows)
+    → AllByRecursion (λ t. t.rank < length (rows_of same t.row.key (before ++ rows))) (ranked same before rows)
 ranks_below same eq before [] = tt
 ranks_below {K} same eq before (row ∷ rows) =
     let mine : List (Row K) → List (Row K) = rows_of same row.key in
     let here : length (mine (row ∷ rows)) ≡ suc (length (mine rows)) = ap (λ b. length (cond b (row ∷ mine rows) (mine rows))) (eq.itself row.key) in (
       omega (arith, here, ap length (filter-append (λ r. same r.key row.key) before (row ∷ rows)), length-append (mine before) (mine (row ∷ rows))),
-      subst (λ (all : List (Row K)). All (λ t. t.rank < length (rows_of same t.row.key all)) (ranked same (before ++ (row ∷ [])) rows)) (append_assoc before (row ∷ []) rows)
+      subst (λ (all : List (Row K)). AllByRecursion (λ t. t.rank < length (rows_of same t.row.key all)) (ranked same (before ++ (row ∷ [])) rows)) (append_assoc before (row ∷ []) rows)
           (ranks_below same eq (before ++ (row ∷ [])) rows),
     )
 
 -- the numbers of a key's rows fit where those of all rows do
-key_fits : {K : Type 0} (same : K → K → Bool) (key : K) (rows : List (Row K)) → All (λ row. All CellFits row.cells) rows → RowsFit (cells_of same key rows)
+key_fits : {K : Type 0} (same : K → K → Bool) (key : K) (rows : List (Row K)) → AllByRecursion (λ row. AllByRecursion CellFits row.cells) rows → RowsFit (cells_of same key rows)
 key_fits same key rows fit =
-    All-map (λ cells. All CellFits cells) (λ r. r.cells) (rows_of same key rows) (all_kept_by (λ r. same r.key key) (λ r. All CellFits r.cells) rows fit)
+    All-map (λ cells. AllByRecursion CellFits cells) (λ r. r.cells) (rows_of same key rows) (all_kept_by (λ r. same r.key key) (λ r. AllByRecursion CellFits r.cells) rows fit)
 
 module _ {K R P : Type 0} (s : Settings K R P) where
   push_few : (fault : Option Told) (v : View K R P) (b : Book K) (batch : List (Row K)) → length b.rows < 2 ^ 32 → (fault ≡ None → length b.rows + length batch < 2 ^ 32)
@@ -81,7 +81,7 @@ module _ {K R P : Type 0} (s : Settings K R P) where
 
 module _ {K S F : Type 0} (k : key.Ghosts K) (o : ordered.Ghosts K) (s : searcher.Ghosts S K) (f : figure.Ghosts F) where
   abbrev Fit : List (Row K) → Type 0
-  Fit rows = All (λ row. All CellFits row.cells) rows
+  Fit rows = AllByRecursion (λ row. AllByRecursion CellFits row.cells) rows
 
   -- the numbers of all accepted rows have 32 bits
   accepted_fit : (r : BoundedWindowAggStream K S F) (b : Book K) (outs : List (OutRow K (List Outcome))) (latest : Latest K) → Reached k o s f r b outs latest → Fit b.rows
@@ -89,14 +89,14 @@ module _ {K S F : Type 0} (k : key.Ghosts K) (o : ordered.Ghosts K) (s : searche
   accepted_fit r b outs latest (push r0 _ b0 outs0 latest0 batch out out' told h q) =
       let was = accepted_fit r0 b0 outs0 latest0 h in
       elim told as (λ t. Fit (booked t b0 (entered b0 batch)).rows)
-      [ Ok n ↦ All-append (λ row. All CellFits row.cells) b0.rows batch was q.fits | Err fault ↦ was ]
+      [ Ok n ↦ All-append (λ row. AllByRecursion CellFits row.cells) b0.rows batch was q.fits | Err fault ↦ was ]
   accepted_fit r b outs latest (finish r0 _ b0 outs0 latest0 out out' told h q) =
       let was = accepted_fit r0 b0 outs0 latest0 h in
       elim told as (λ t. Fit (booked t b0 (closed b0)).rows) [ Ok n ↦ was | Err fault ↦ was ]
 
 module _ {K S : Type 0} (k : key.Ghosts K) (o : ordered.Ghosts K) (s : searcher.Ghosts S K) where
   -- one row's results are the letters' lines
-  row_lined : LettersMean → (r : BoundedWindowAggStream K S LetterFigure) (b : Book K) → length b.rows < 2 ^ 32 → All (λ row. All CellFits row.cells) b.rows
+  row_lined : LettersMean → (r : BoundedWindowAggStream K S LetterFigure) (b : Book K) → length b.rows < 2 ^ 32 → AllByRecursion (λ row. AllByRecursion CellFits row.cells) b.rows
       → (t : Ranked K) → t.rank < length (rows_of k.same t.row.key b.rows) → afresh (settings_of k o s meaning r) b t ≡ lined k o s (figures r.set) b t
   row_lined mean r b few fit t below =
       let fs = figures r.set in

@@ -1,6 +1,6 @@
 -- A run as the lists that it holds, and what its calls promise.
 use Rattle.std.specs.Prelude.{◌≡◌, ℕ, List, ◌++◌, length, drop, Some, None, Ok, Err, Option, Result}
-use Rattle.std.specs.List.{AllByRecursion as All}
+use Rattle.std.specs.List.{AllByRecursion}
 use Rattle.keys.specs.declared.key.Key as key
 use Rattle.keys.specs.declared.key.OrderedKey as ordered
 use Rattle.figures.specs.declared.cells.Outcome.{Outcome}
@@ -58,7 +58,7 @@ module _ {K S F : Type 0} (k : key.Ghosts K) (o : ordered.Ghosts K) (s : searche
       (after : BoundedWindowAggStream K S F) (out' : List (OutRow K (List Outcome))) : Type 0 where
     pub leaves : Leaves before out told after out' (pushed (settings_of before) (view before) batch (length out))
     -- the rows' numbers have 32 bits
-    pub fits : All (λ row. All CellFits row.cells) batch
+    pub fits : AllByRecursion (λ row. AllByRecursion CellFits row.cells) batch
 
   abbrev pub Finishes : BoundedWindowAggStream K S F → List (OutRow K (List Outcome)) → Result ℕ RunFault
       → BoundedWindowAggStream K S F → List (OutRow K (List Outcome)) → Type 0

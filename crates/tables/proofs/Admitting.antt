@@ -1,6 +1,6 @@
 -- The turns of the loop that admits a batch.
 use Rattle.std.proofs.Common.{◌≡◌, ℕ, ◌+◌, ◌^◌, ◌<◌, ◌≤◌, Bool, true, eqb, List, [], ◌∷◌, ◌++◌, length, get_or, drop, set, sym, refl, ap, ◌∙◌, subst, inl, inr, add-zero, arith, length-set}
-use Rattle.std.specs.List.{AllByRecursion as All}
+use Rattle.std.specs.List.{AllByRecursion}
 use Rattle.std.proofs.lemmas.List.{length_push, get_or_push, get_or_append_left, get_or-drop, get_or-set_same, get_or-set_other, at_drop_more, at_drop_all, drop-drop}
 use Rattle.std.proofs.lemmas.Bool.{cases_eq, eq-eqb, ne_eqb, cond-true, cond-false}
 use Rattle.keys.specs.Laws.{Equality}
@@ -41,7 +41,7 @@ pub record Seated {K P : Type 0} (same : K → K → Bool) (held : List (Held K 
 -- t have become u: the rows from i on have still to be admitted
 pub record Admitting {K R P : Type 0} (same : K → K → Bool) (start : P) (blank : R) (accepted : ℕ) (t u : Lists K R P) (batch : List (Row K)) (ids places : List ℕ) (seen i : ℕ) : Type 0 where
   pub is : admit same start blank u (drop i batch) ≡ admit same start blank t batch
-  pub counts : All (λ e. e.rows ≤ accepted + i) u.held
+  pub counts : AllByRecursion (λ e. e.rows ≤ accepted + i) u.held
   pub waits : length u.waiting ≡ length t.waiting + i
   pub keeps : length u.kept ≡ length t.kept + i
   pub keys : List K
@@ -185,7 +185,7 @@ module _ {K R P : Type 0} (same : K → K → Bool) (equality : Equality same) (
       pub admitting_more : (w : Lists K R P) → w ≡ admitted same start blank u r → Admitting same start blank accepted t w batch ids there more (i + 1)
       admitting_more w z = record {
         is = ap (λ (y : Lists K R P). admit same start blank y (drop (i + 1) batch)) z ∙ next;
-        counts = subst (λ (y : Lists K R P). All (λ e. e.rows ≤ accepted + (i + 1)) y.held) (sym z) (subst (λ (n : ℕ). All (λ e. e.rows ≤ n) (counted_in same start key u.held)) (omega arith) (rows_counted same start key (accepted + i) u.held q.counts));
+        counts = subst (λ (y : Lists K R P). AllByRecursion (λ e. e.rows ≤ accepted + (i + 1)) y.held) (sym z) (subst (λ (n : ℕ). AllByRecursion (λ e. e.rows ≤ n) (counted_in same start key u.held)) (omega arith) (rows_counted same start key (accepted + i) u.held q.counts));
         waits = ap (λ (y : Lists K R P). length y.waiting) z ∙ length_push u.waiting _ ∙ omega (arith, q.waits);
         keeps = ap (λ (y : Lists K R P). length y.kept) z ∙ length_push u.kept _ ∙ omega (arith, q.keeps);
         keys = noticed same key q.keys;

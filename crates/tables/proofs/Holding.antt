@@ -1,7 +1,7 @@
 -- The search for a held key, and one row more of a key.
 use Rattle.std.proofs.Common.{◌≡◌, ℕ, zero, suc, ◌+◌, ◌<◌, ◌≤◌, Bool, true, false, cond, leb, List, [], ◌∷◌, ◌++◌, length, get_or, drop, sym, refl, ap, ◌∙◌, subst, inl, inr, arith}
 use lib.ListN.{length-map}
-use Rattle.std.specs.List.{AllByRecursion as All}
+use Rattle.std.specs.List.{AllByRecursion}
 use Rattle.std.proofs.lemmas.List.{at_drop_more, at_drop_all}
 use Rattle.std.proofs.lemmas.Bool.{cases_Bool, cases_lt, and_parts, leb-true}
 use Rattle.searchers.specs.Groups.{noticed}
@@ -97,25 +97,25 @@ module _ {K P : Type 0} (same : K → K → Bool) (start : P) (k : K) where
         | inr new ↦ keys_new held (omega arith) ∙ sym (noticed_new same k (held_keys held) (omega arith))
       ]
 
-  rows_more : (m : ℕ) (held : List (Held K P)) → All (λ e. e.rows ≤ m) held → All (λ e. e.rows ≤ m + 1) held
+  rows_more : (m : ℕ) (held : List (Held K P)) → AllByRecursion (λ e. e.rows ≤ m) held → AllByRecursion (λ e. e.rows ≤ m + 1) held
   rows_more m [] a = tt
   rows_more m (e ∷ held) a = (omega (arith, a.0), rows_more m held a.1)
 
-  pub rows_counted : (m : ℕ) (held : List (Held K P)) → All (λ e. e.rows ≤ m) held → All (λ e. e.rows ≤ m + 1) (counted_in same start k held)
+  pub rows_counted : (m : ℕ) (held : List (Held K P)) → AllByRecursion (λ e. e.rows ≤ m) held → AllByRecursion (λ e. e.rows ≤ m + 1) (counted_in same start k held)
   rows_counted m [] a = (omega arith, tt)
   rows_counted m (e ∷ held) a =
       elim (cases_Bool (same e.key k)) [
-        | inl t ↦ subst (All (λ e. e.rows ≤ m + 1)) (sym (counted_by e held true t)) (omega (arith, a.0), rows_more m held a.1)
-        | inr f ↦ subst (All (λ e. e.rows ≤ m + 1)) (sym (counted_by e held false f)) (omega (arith, a.0), rows_counted m held a.1)
+        | inl t ↦ subst (AllByRecursion (λ e. e.rows ≤ m + 1)) (sym (counted_by e held true t)) (omega (arith, a.0), rows_more m held a.1)
+        | inr f ↦ subst (AllByRecursion (λ e. e.rows ≤ m + 1)) (sym (counted_by e held false f)) (omega (arith, a.0), rows_counted m held a.1)
       ]
 
-pub rows_within : {K P : Type 0} (n : ℕ) (held : List (Held K P)) → within n held ≡ true → All (λ e. e.rows ≤ n) held
+pub rows_within : {K P : Type 0} (n : ℕ) (held : List (Held K P)) → within n held ≡ true → AllByRecursion (λ e. e.rows ≤ n) held
 rows_within n [] w = tt
 rows_within n (e ∷ held) w =
     let both = and_parts (leb e.rows n) (within n held) w in
     (leb-true e.rows n both.0, rows_within n held both.1)
 
-pub rank_within : {K P : Type 0} (n : ℕ) (held : List (Held K P)) → All (λ e. e.rows ≤ n) held → (i : ℕ) → value_at (λ e. e.rows) 0 held i ≤ n
+pub rank_within : {K P : Type 0} (n : ℕ) (held : List (Held K P)) → AllByRecursion (λ e. e.rows ≤ n) held → (i : ℕ) → value_at (λ e. e.rows) 0 held i ≤ n
 rank_within n [] a i = omega arith
 rank_within n (e ∷ held) a zero = a.0
 rank_within n (e ∷ held) a (suc i) = rank_within n held a.1 i

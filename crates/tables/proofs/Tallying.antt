@@ -1,7 +1,7 @@
 -- How many different keys there are, from the first rows of groups.
 use Rattle.std.proofs.Common.{◌≡◌, ℕ, suc, ◌+◌, ◌-◌, ◌<◌, ◌≤◌, Bool, true, false, cond, ◌||◌, ltb, List, [], ◌∷◌, ◌++◌, length, get_or, drop, replicate, sym, refl, ap, ◌∙◌, inl, inr, arith}
 use lib.ListN.{length-map}
-use Rattle.std.specs.List.{AllByRecursion as All}
+use Rattle.std.specs.List.{AllByRecursion}
 use Rattle.std.proofs.ByRecursion.{All-get_or}
 use Rattle.std.proofs.lemmas.List.{append_assoc, length_push, get_or_append_left, at_drop_more, at_drop_all}
 use Rattle.std.proofs.lemmas.Bool.{cases_Bool, cases_lt, lt-ltb, le-ltb, cond_both}
@@ -144,11 +144,11 @@ module _ {K : Type 0} (same : K → K → Bool) where
       pub tally_all : length held + tally held batch (group_firsts same [] 0 (keys_of batch)) ≡ length (distinct same held batch)
       tally_all = sym (tallied held [] [] batch 0 refl refl (λ k. or_false (among k held)))
 
-  firsts_low : (n : ℕ) (seen : List K) (i : ℕ) (keys : List K) → i + length keys ≤ n → All (λ p. p < n) (group_firsts same seen i keys)
+  firsts_low : (n : ℕ) (seen : List K) (i : ℕ) (keys : List K) → i + length keys ≤ n → AllByRecursion (λ p. p < n) (group_firsts same seen i keys)
   firsts_low n seen i [] h = tt
   firsts_low n seen i (k ∷ keys) h =
       let rest = firsts_low n (noticed same k seen) (i + 1) keys (omega arith) in
-      cond_both (ltb (place same k seen) (length seen)) _ _ (All (λ p. p < n)) (λ _. rest) (λ _. (omega arith, rest))
+      cond_both (ltb (place same k seen) (length seen)) _ _ (AllByRecursion (λ p. p < n)) (λ _. rest) (λ _. (omega arith, rest))
 
   pub firsts_few : (seen : List K) (i : ℕ) (keys : List K) → length (group_firsts same seen i keys) ≤ length keys
   firsts_few seen i [] = omega arith

@@ -1,6 +1,6 @@
 // The calls of a run.
 ghost use Rattle.std.specs.Prelude.{◌≡◌, ◌^◌, ◌<◌, ◌++◌, length, drop, None};
-ghost use Rattle.std.specs.List.{AllByRecursion as All};
+ghost use Rattle.std.specs.List.{AllByRecursion};
 ghost use Rattle.figures.specs.Cells.{CellFits};
 ghost use Rattle.searchers.specs.Groups.{grouped};
 ghost use Rattle.searchers.specs.Order.{keys_of};
@@ -34,7 +34,7 @@ fn last_key_of<K: Copy>(last: Option<K>, batch: &[Row<K>]) -> Option<K>
 
 // The numbers of a batch's rows have 32 bits, as their type says.
 fn batch_fits<K>(batch: &[Row<K>])
-    ensures { All (λ row. All CellFits row.cells) batch.now }
+    ensures { AllByRecursion (λ row. AllByRecursion CellFits row.cells) batch.now }
 {
     for row in batch {
         row_fits(&row.cells);

@@ -1,6 +1,6 @@
 use Rattle.std.proofs.Common.{ℕ, ◌-◌, ◌<◌, ◌≤◌, [], length, get_or, replicate, refl, ap, subst, arith, rules}
 use lib.ListN.{length-replicate}
-use Rattle.std.specs.List.{AllByRecursion as All}
+use Rattle.std.specs.List.{AllByRecursion}
 use Rattle.searchers.specs.Groups.{group_ids}
 use Rattle.searchers.specs.Order.{keys_of}
 use Rattle.tables.specs.Rows.{rows}
@@ -12,7 +12,7 @@ use Rattle.tables.proofs.tables.Tables.admit.Goals as goal
 pub loop-i-init : goal.loop-i-init
 loop-i-init g c = record {
   is = refl;
-  counts = subst (λ n. All (λ e. e.rows ≤ n) (rows c.args.self.now.held)) (omega arith) (rows_within c.args.accepted (rows c.args.self.now.held) c.requires.counts);
+  counts = subst (λ n. AllByRecursion (λ e. e.rows ≤ n) (rows c.args.self.now.held)) (omega arith) (rows_within c.args.accepted (rows c.args.self.now.held) c.requires.counts);
   waits = omega arith;
   keeps = omega arith;
   keys = [];
