@@ -7,7 +7,7 @@ use Rattle.std.proofs.lemmas.Bool.Decides.{nat_tests, Decides-ltb}
 use Rattle.std.proofs.ByRecursion.{Decides-by_and}
 use Rattle.figures.specs.declared.set.FigureSet.{FigureSet}
 use Rattle.figures.specs.declared.set.FigureSet.TheVariants.{One, Two, Three, Four}
-use Rattle.figures.specs.Sets.{figures, largest}
+use Rattle.figures.specs.Sets.{figures}
 use Rattle.searchers.specs.Leaving.{standing_at, by_one, by_each, by_largest, settled_as, settled, leaving, Settled, LongestFront}
 use Rattle.searchers.specs.declared.leaving.Standing.TheVariants.{Ended, Open}
 use Rattle.searchers.specs.declared.rows.Held.{Held}

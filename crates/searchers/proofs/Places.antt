@@ -1,5 +1,5 @@
 -- What `place` finds. Assumes nothing.
-use Rattle.std.proofs.Common.{◌≡◌, ℕ, zero, suc, ◌+◌, ◌<◌, ◌≤◌, Bool, true, false, cond, List, [], ◌∷◌, ◌++◌, map, length, get_or, sym, refl, ap, ◌∙◌, inl, inr, suc-le-suc, arith}
+use Rattle.std.proofs.Common.{◌≡◌, ℕ, zero, suc, ◌<◌, ◌≤◌, Bool, true, false, cond, List, [], ◌∷◌, ◌++◌, map, length, get_or, sym, refl, ap, ◌∙◌, inl, inr, suc-le-suc, arith}
 use Rattle.searchers.specs.Groups.{place, noticed}
 use Rattle.searchers.specs.Table.{picked, Inside}
 use Rattle.searchers.specs.Order.{keys_of}

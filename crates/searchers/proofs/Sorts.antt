@@ -1,5 +1,5 @@
 -- Groups of a sorted batch, one row on: only the last of the keys seen can be the same as the next row's.
-use Rattle.std.proofs.Common.{◌≡◌, ℕ, suc, ◌+◌, ◌-◌, ◌<◌, ◌≤◌, Bool, true, false, cond, List, [], ◌∷◌, ◌++◌, length, get_or, take, drop, set, Some, None, Option, Ordering, Less, Equal, Greater, sym, refl, ap, ◌∙◌, subst, arith}
+use Rattle.std.proofs.Common.{◌≡◌, ℕ, suc, ◌+◌, ◌-◌, ◌<◌, ◌≤◌, Bool, false, cond, List, [], ◌∷◌, ◌++◌, length, get_or, take, drop, set, Some, None, Option, Ordering, Less, Equal, Greater, sym, refl, ap, ◌∙◌, subst, arith}
 use Rattle.keys.specs.Laws.{Equality, Ranking}
 use Rattle.keys.specs.Pulled.{tie_is_equal}
 use Rattle.std.specs.Ordering.{is_eq, is_lt, ordering_reverse}

@@ -9,14 +9,14 @@ use Rattle.searchers.proofs.Sorts.{old_count, old_step, new_step, ends_sorting}
 use Rattle.searchers.proofs.groups.evaluate_partition_ranges.Goals as goal
 use Rattle.searchers.proofs.groups.evaluate_partition_ranges.Goals.{in-Equal, in-Greater}
 
-pub overflow-sub-ids : goal.overflow-sub-ids
-overflow-sub-ids g c =
+pub overflow_sub-ids : goal.overflow_sub-ids
+overflow_sub-ids g c =
     let met = g.met.K.OrderedKey in
     let r = c.index-rows-i.result in
     elim c.match-rises.branch [
       | in-Equal w ↦
-          omega (arith, w.count_is, old_count g.K.Key.same g.K.OrderedKey.order g.met.K.Key.equality met.ranked met.ties (keys_of c.args.rows.now) c.loop-i.before c.loop-i.ids c.loop-i.firsts c.loop-i.count c.loop-i.i r.key c.loop-i.invariant (sym w.in-Equal.ensures))
-      | in-Greater w ↦ omega (arith, w.count_is)
+          omega (arith, w.count-is, old_count g.K.Key.same g.K.OrderedKey.order g.met.K.Key.equality met.ranked met.ties (keys_of c.args.rows.now) c.loop-i.before c.loop-i.ids c.loop-i.firsts c.loop-i.count c.loop-i.i r.key c.loop-i.invariant (sym w.in-Equal.ensures))
+      | in-Greater w ↦ omega (arith, w.count-is)
     ]
 
 pub loop-i-preserved : goal.loop-i-preserved
@@ -34,9 +34,9 @@ loop-i-preserved g c =
     let read = key_read rows i r c.loop-i-test.true c.index-rows-i.is in
     let small : length keys ≤ 256 = omega (arith, length-map rows (λ r. r.key), c.requires) in
     elim c.match-rises.branch [
-      | in-Equal w ↦ rw (w.count_is, w.firsts-is)
+      | in-Equal w ↦ rw (w.count-is, w.firsts-is)
           (old_step same order equality ranked ties keys c.loop-i.before c.loop-i.ids c.loop-i.firsts c.loop-i.count i r.key c.loop-i.invariant low small read (sym w.in-Equal.ensures))
-      | in-Greater w ↦ rw (w.count_is, w.firsts-is)
+      | in-Greater w ↦ rw (w.count-is, w.firsts-is)
           (new_step same order equality ranked ties keys c.loop-i.before c.loop-i.ids c.loop-i.firsts c.loop-i.count i r.key c.loop-i.invariant low small read (sym w.in-Greater.ensures))
     ]
 

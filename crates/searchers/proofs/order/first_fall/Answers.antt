@@ -4,13 +4,13 @@ use Rattle.searchers.specs.Order.{keys_of, lower, falls, first_fall}
 use Rattle.searchers.proofs.Falls.{fall_here, no_fall_here, means_first_fall}
 use Rattle.searchers.proofs.Places.{key_within, key_read, keys_past}
 use Rattle.searchers.proofs.order.first_fall.Goals as goal
-use Rattle.searchers.proofs.order.first_fall.Goals.{in-Some+else-is-lower, in-default}
+use Rattle.searchers.proofs.order.first_fall.Goals.{in-Some+else-is_lower, in_default}
 
-pub returns-then-is-lower : goal.returns-then-is-lower
-returns-then-is-lower g c =
+pub returns-then-is_lower : goal.returns-then-is_lower
+returns-then-is_lower g c =
     let low = lower c.args.mode g.K.OrderedKey.order g.K.OrderedKey.parts in
     let r = c.index-rows-i.result in
-    let e : falls low c.loop-i.before r.key ≡ true = ap (λ b. falls low b r.key) c.in-Some.is ∙ sym c.if-is-lower.ensures in
+    let e : falls low c.loop-i.before r.key ≡ true = ap (λ b. falls low b r.key) c.in-Some.is ∙ sym c.if-is_lower.ensures in
     let rows = c.args.rows.now in
     let i = c.loop-i.i in
     let value : Some i ≡ first_fall low c.args.last 0 (keys_of rows) = sym (fall_here low c.loop-i.before (keys_of rows) i r.key (key_within rows i c.loop-i-test.true) (key_read rows i r c.loop-i-test.true c.index-rows-i.is) e) ∙ c.loop-i.invariant in
@@ -22,8 +22,8 @@ loop-i-preserved g c =
     let r = c.index-rows-i.result in
     let e : falls low c.loop-i.before r.key ≡ false =
     elim c.match-before.branch [
-      | in-Some+else-is-lower w ↦ ap (λ b. falls low b r.key) w.in-Some.is ∙ sym w.if-is-lower.ensures
-      | in-default w ↦ ap (λ b. falls low b r.key) w.in-default.is
+      | in-Some+else-is_lower w ↦ ap (λ b. falls low b r.key) w.in-Some.is ∙ sym w.if-is_lower.ensures
+      | in_default w ↦ ap (λ b. falls low b r.key) w.in_default.is
     ]
     in
     let rows = c.args.rows.now in

@@ -30,8 +30,8 @@ returns c =
     let past : length ids ≤ i = search rules in
     let first : c.if-group-lt256.first ≡ get_or firsts g 256 =
     elim c.if-group-lt256.branch [
-      | then-group-lt256 w ↦ (let within : g < length firsts = search rules in w.first_is ∙ get_or_default firsts g 0 256 within)
-      | else-group-lt256 w ↦ (let past : length firsts ≤ g = search rules in w.first_is ∙ sym (get_or_past firsts g 256 past))
+      | then-group-lt256 w ↦ (let within : g < length firsts = search rules in w.first-is ∙ get_or_default firsts g 0 256 within)
+      | else-group-lt256 w ↦ (let past : length firsts ≤ g = search rules in w.first-is ∙ sym (get_or_past firsts g 256 past))
     ]
     in
     let end : c.loop-i.end ≡ after_last g 0 0 ids = sym (at_drop_all (after_last g i c.loop-i.end) ids i past) ∙ c.loop-i.invariant in

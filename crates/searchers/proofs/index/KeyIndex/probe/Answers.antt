@@ -19,8 +19,8 @@ bounds-rows-first g c =
     let wide : s.count ≤ length s.firsts = search rules in
     first_low k.same k.hashed c.args.rows.now s.firsts s.slots s.count c.requires.sound c.requires.some wide c.requires.inside _ (omega arith) (search rules)
 
-pub offset-bounds-rows-first : goal.offset-bounds-rows-first
-offset-bounds-rows-first g c =
+pub offset_bounds-rows-first : goal.offset_bounds-rows-first
+offset_bounds-rows-first g c =
     let k = g.K.Key in
     let s = c.args.self.now in
     let wide : s.count ≤ length s.firsts = search rules in
@@ -28,8 +28,8 @@ offset-bounds-rows-first g c =
     let low = first_low k.same k.hashed c.args.rows.now s.firsts s.slots s.count c.requires.sound c.requires.some wide c.requires.inside at (omega arith) (search rules) in
     omega arith
 
-pub returns-then-has-key : goal.returns-then-has-key
-returns-then-has-key g c =
+pub returns-then-has_key : goal.returns-then-has_key
+returns-then-has_key g c =
     let k = g.K.Key in
     let m = g.met.K.Key in
     let e = c.hash.ensures in
@@ -40,7 +40,7 @@ returns-then-has-key g c =
     let wide : s.count ≤ length s.firsts = search rules in
     let some : 0 < get_or s.slots at 0 = search rules in
     let there = first_key k.same k.hashed c.args.rows.now s.firsts s.slots s.count c.requires.sound c.requires.some wide c.requires.inside at (omega arith) some key c.index-rows-first.result in
-    let equal : k.same (get_or (picked (keys_of c.args.rows.now) (take s.count s.firsts)) (get_or s.slots at 0 - 1) key) key ≡ true = ap (λ x. k.same x key) there ∙ ap (λ (x : Row g.row.K.Denot). k.same x.key key) (sym c.index-rows-first.is) ∙ sym c.if-has-key.ensures in
+    let equal : k.same (get_or (picked (keys_of c.args.rows.now) (take s.count s.firsts)) (get_or s.slots at 0 - 1) key) key ≡ true = ap (λ x. k.same x key) there ∙ ap (λ (x : Row g.row.K.Denot). k.same x.key key) (sym c.index-rows-first.is) ∙ sym c.if-has_key.ensures in
     rw e (land_found k.same k.hashed m.equality m.agree _ _ _ step c.requires.sound c.loop-step.invariant c.loop-step-test.true (rw e at some) (rw e at equal))
 
 pub loop-step-preserved : goal.loop-step-preserved
@@ -54,7 +54,7 @@ loop-step-preserved g c =
     let wide : s.count ≤ length s.firsts = search rules in
     let some : 0 < get_or s.slots at 0 = search rules in
     let differs : (d : g.row.K.Denot) → k.same (get_or (picked (keys_of c.args.rows.now) (take s.count s.firsts)) (get_or s.slots at 0 - 1) d) key ≡ false =
-    λ d. ap (λ x. k.same x key) (first_key k.same k.hashed c.args.rows.now s.firsts s.slots s.count c.requires.sound c.requires.some wide c.requires.inside at (omega arith) some d c.index-rows-first.result) ∙ ap (λ (x : Row g.row.K.Denot). k.same x.key key) (sym c.index-rows-first.is) ∙ sym c.if-has-key.ensures in
+    λ d. ap (λ x. k.same x key) (first_key k.same k.hashed c.args.rows.now s.firsts s.slots s.count c.requires.sound c.requires.some wide c.requires.inside at (omega arith) some d c.index-rows-first.result) ∙ ap (λ (x : Row g.row.K.Denot). k.same x.key key) (sym c.index-rows-first.is) ∙ sym c.if-has_key.ensures in
     below_more _ step c.loop-step.invariant (rw e at some, rw e at differs)
 
 pub unreachable-requires : goal.unreachable-requires

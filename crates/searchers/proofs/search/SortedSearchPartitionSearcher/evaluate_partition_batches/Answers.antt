@@ -14,12 +14,12 @@ pub returns-in-Some : goal.returns-in-Some
 returns-in-Some g c =
     let same = g.K.Key.same in
     let rows = take 256 c.args.rows.now in
-    let value : c.in-Some.groups ≡ grouped same (keys_of rows) = sorted_groups _ _ _ c.in-Some.ensures ∙ ap (λ rows. grouped same (keys_of rows)) c.first-rows-rows.ensures.first in
+    let value : c.in-Some.groups ≡ grouped same (keys_of rows) = sorted_groups _ _ _ c.in-Some.ensures ∙ ap (λ rows. grouped same (keys_of rows)) c.first_rows-rows.ensures.first in
     record { value = value; means = groups_mean same g.met.K.Key.equality (keys_of rows) _ value }
 
 pub returns-in-None : goal.returns-in-None
 returns-in-None g c =
     let same = g.K.Key.same in
     let rows = take 256 c.args.rows.now in
-    let value : c.group-by-hash.result ≡ grouped same (keys_of rows) = c.group-by-hash.ensures ∙ ap (λ rows. grouped same (keys_of rows)) c.first-rows-rows.ensures.first in
+    let value : c.group_by_hash.result ≡ grouped same (keys_of rows) = c.group_by_hash.ensures ∙ ap (λ rows. grouped same (keys_of rows)) c.first_rows-rows.ensures.first in
     record { value = value; means = groups_mean same g.met.K.Key.equality (keys_of rows) _ value }
