@@ -1,11 +1,11 @@
 -- A sign's bytes: cut from the array that holds them with zeros after them, and read one by one.
-use Rattle.std.proofs.Common.{◌≡◌, ℕ, ◌+◌, ◌-◌, ◌<◌, ◌≤◌, Bool, true, false, cond, ◌&&◌, eqb, leb, List, [], ◌∷◌, ◌++◌, length, get_or, take, drop, Some, None, sym, refl, ap, ◌∙◌, arith}
+use Rattle.std.proofs.Common.{◌≡◌, ℕ, ◌+◌, ◌-◌, ◌<◌, ◌≤◌, true, false, cond, ◌&&◌, eqb, leb, List, length, get_or, take, drop, Some, None, sym, refl, ap, ◌∙◌, arith}
 use Rattle.std.specs.List.{between}
 use Rattle.std.proofs.lemmas.List.{take_at, at_drop_more, at_drop_all, take_rest}
 use Rattle.std.proofs.lemmas.Slice.{first_rest}
 use Rattle.std.proofs.lemmas.Bool.{eq-eqb, ne_eqb, le-leb, lt-leb, and_from, and_left, and_right, cond-true, cond-false}
 use Rattle.call_signs.specs.Letters.{letter_of}
-use Rattle.call_signs.specs.Signs.{sign_bytes, padded, and_then, added, grown, sign_of, zeros, sign_from}
+use Rattle.call_signs.specs.Signs.{padded, and_then, added, grown, sign_of, zeros, sign_from}
 use Rattle.call_signs.specs.declared.letter.Letter.{Letter}
 use Rattle.call_signs.specs.declared.sign.CallSign.{CallSign}
 use Rattle.call_signs.specs.declared.sign.CallSign.TheVariants.{One}

@@ -5,7 +5,7 @@ use Rattle.std.proofs.lemmas.List.{length-take-le, append-nil}
 use Rattle.std.proofs.lemmas.Bool.{eqb-true, leb-true, and_parts}
 use Rattle.keys.specs.ReadBack.{none_some, cond_some}
 use Rattle.call_signs.specs.Letters.{code, letters, with_byte, letter_of}
-use Rattle.call_signs.specs.Signs.{sign_bytes, padded, and_then, added, grown, sign_of, zeros, sign_from, written_sign}
+use Rattle.call_signs.specs.Signs.{sign_bytes, and_then, added, grown, sign_of, zeros, sign_from, written_sign}
 use Rattle.call_signs.specs.declared.letter.Letter.{Letter}
 use Rattle.call_signs.specs.declared.letter.Letter.TheVariants.{Blank, N0, N1, N2, N3, N4, N5, N6, N7, N8, N9, A, B, C, D, E, F, G, H, I, J, K, L, M, N, O, P, Q, R, S, T, U, V, W, X, Y, Z}
 use Rattle.call_signs.specs.declared.sign.CallSign.{CallSign}

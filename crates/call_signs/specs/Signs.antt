@@ -1,8 +1,7 @@
 -- Call signs as bytes.
-use Rattle.std.specs.Prelude.{ℕ, ◌-◌, Bool, true, cond, ◌&&◌, List, [], ◌∷◌, ◌++◌, map, length, take, drop, replicate, Some, None, Option, ◌==◌, nat_le}
+use Rattle.std.specs.Prelude.{ℕ, ◌-◌, nat_eq, Bool, true, cond, ◌&&◌, List, [], ◌∷◌, ◌++◌, map, length, take, drop, replicate, Some, None, Option, ◌==◌, nat_le}
 use Rattle.std.specs.declared.cmp.Ordering.{Ordering}
-use Rattle.std.specs.Cmp.{nat_eq_equiv}
-use Rattle.std.specs.Cmp.Lexicographic.{slice_cmp, each}
+use Rattle.std.specs.Cmp.Lexicographic.{slice_cmp, pointwise}
 use Rattle.raw_bytes.specs.Numbers.{little_endian}
 use Rattle.call_signs.specs.Letters.{code, letter_of}
 use Rattle.call_signs.specs.declared.letter.Letter.{Letter}
@@ -30,7 +29,7 @@ abbrev pub padded : List ℕ → List ℕ
 padded bytes = bytes ++ replicate (8 - length bytes) 0
 
 abbrev pub same_sign : CallSign → CallSign → Bool
-same_sign x y = each nat_eq_equiv (compared_bytes x) (compared_bytes y)
+same_sign x y = pointwise nat_eq (compared_bytes x) (compared_bytes y)
 
 -- byte by byte, the shorter first where one begins the other
 abbrev pub sign_order : CallSign → CallSign → Ordering

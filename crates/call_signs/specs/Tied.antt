@@ -1,10 +1,10 @@
 -- Signs tie exactly where they are equal.
-use Rattle.std.specs.Prelude.{◌≡◌, ℕ, ◌&&◌, List, [], ◌∷◌, refl}
+use Rattle.std.specs.Prelude.{◌≡◌, ℕ, nat_eq, ◌&&◌, List, [], ◌∷◌, refl}
 use Rattle.std.specs.declared.cmp.Ordering.TheVariants.{Less, Equal, Greater}
 use Rattle.std.specs.declared.cmp.Ordering.{Ordering}
 use Rattle.std.proofs.Common.{◌∙◌}
-use Rattle.std.specs.Cmp.{nat_eq_equiv, unsigned_tied}
-use Rattle.std.specs.Cmp.Lexicographic.{slice_cmp, each}
+use Rattle.std.specs.Cmp.{unsigned_tied}
+use Rattle.std.specs.Cmp.Lexicographic.{slice_cmp, pointwise}
 use Rattle.std.specs.Ordering.{is_eq, ordering_then, nat_cmp}
 use Rattle.call_signs.specs.Signs.{compared_bytes, same_sign, sign_order}
 use Rattle.call_signs.specs.declared.sign.CallSign.{CallSign}
@@ -14,7 +14,7 @@ then_tied Less b = refl
 then_tied Equal b = refl
 then_tied Greater b = refl
 
-lists_tied : (xs ys : List ℕ) → is_eq (slice_cmp nat_cmp xs ys) ≡ each nat_eq_equiv xs ys
+lists_tied : (xs ys : List ℕ) → is_eq (slice_cmp nat_cmp xs ys) ≡ pointwise nat_eq xs ys
 lists_tied [] [] = refl
 lists_tied [] (y ∷ ys) = refl
 lists_tied (x ∷ xs) [] = refl

@@ -1,4 +1,4 @@
-use Rattle.std.proofs.Common.{◌≡◌, ◌-◌, [], ◌∷◌, map, take, sym, ap, ◌∙◌, arith}
+use Rattle.std.proofs.Common.{◌≡◌, ◌-◌, [], ◌∷◌, map, take, ◌∙◌, arith}
 use Rattle.std.proofs.lemmas.List.{take_all, map_more}
 use Rattle.raw_bytes.proofs.Writing.{wrote_none, wrote_both}
 use Rattle.call_signs.specs.Signs.{underscored, sign_bytes}

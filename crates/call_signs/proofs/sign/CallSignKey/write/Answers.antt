@@ -5,4 +5,4 @@ use Rattle.call_signs.proofs.sign.CallSignKey.write.Goals as goal
 pub returns : goal.returns
 returns c =
     rw (← c.spelled-sign.ensures.bytes, ← c.spelled-sign.ensures.len)
-    (wrote_both (c.spelled-sign.result.len ∷ []) c.spelled-sign.result.bytes (omega arith) c.put-next.ensures c.put-text.ensures)
+    (wrote_both (c.spelled-sign.result.len ∷ []) c.spelled-sign.result.bytes (omega arith) c.put-next.ensures c.put_text.ensures)

@@ -1,6 +1,5 @@
-use Rattle.std.proofs.Common.{◌≡◌, ◌-◌, take, ap, ◌∙◌}
-use Rattle.std.specs.Cmp.{nat_cmp_total}
-use Rattle.std.specs.Cmp.Lexicographic.{slice_cmp, lex-says}
+use Rattle.std.proofs.Common.{◌≡◌, ap, ◌∙◌}
+use Rattle.std.specs.Cmp.Lexicographic.{slice_cmp}
 use Rattle.std.specs.Ordering.{is_eq, nat_cmp}
 use Rattle.call_signs.specs.Signs.{compared_bytes, sign_order}
 use Rattle.call_signs.specs.Tied.{signs_tied}
@@ -11,5 +10,5 @@ pub returns : goal.returns
 returns c =
     let x = cut_bytes (compared_bytes c.args.self.now) _ _ c.compared-x.ensures.bytes c.compared-x.ensures.len in
     let y = cut_bytes (compared_bytes c.args.other.now) _ _ c.compared-y.ensures.bytes c.compared-y.ensures.len in
-    let order : c.cmp.result ≡ sign_order c.args.self.now c.args.other.now = lex-says nat_cmp_total (take (c.compared-x.result.len - 0) c.compared-x.result.bytes) (take (c.compared-y.result.len - 0) c.compared-y.result.bytes) c.cmp.result c.cmp.ensures ∙ (λ i. slice_cmp nat_cmp (x i) (y i)) in
+    let order : c.cmp.result ≡ sign_order c.args.self.now c.args.other.now = c.cmp.ensures ∙ (λ i. slice_cmp nat_cmp (x i) (y i)) in
     record { order = order; ties = ap is_eq order ∙ signs_tied c.args.self.now c.args.other.now }
