@@ -4,7 +4,6 @@ use mathlib.Core.HLevel.{Σ_prop_path}
 use mathlib.Core.List.{is_set}
 use native.Mathlib.Bridge.{le_prop}
 use native.Mathlib.Nat.{ℕ_set}
-use denote.Struct.Props.{three_prop}
 use Rattle.tables.specs.declared.table.Table.{Table}
 use Rattle.tables.specs.Places.{somes, laid}
 use Rattle.tables.specs.Rows.{rows}
@@ -17,7 +16,7 @@ module _ {T : Type 0} (N : ℕ) (set : IsSet (Option T)) where
   Facts d = (d.0 ≡ laid N (somes d.0)) × (d.1 ≡ length (somes d.0)) × (d.1 ≤ N)
 
   facts_prop : (d : Data) → IsProp (Facts d)
-  facts_prop d = three_prop (is_set set _ _) (ℕ_set _ _) le_prop
+  facts_prop d = hlevel (is_set set, ℕ_set, le_prop)
 
   abbrev made : (d : Data) × Facts d → Table T N
   made w = record { places = w.0.0; len = w.0.1; packed = w.1.0; count = w.1.1; few = w.1.2 }

@@ -25,7 +25,7 @@ returns-then-at-len g c =
     let old : place_in g.K.Key.same c.args.key held < length held = omega (arith, c.requires.place) in
     record {
       rank = value_read (λ e. e.rows) 0 held c.args.at c.get.result.now h c.get.ensures;
-      rows = c.count-up.ensures ∙ ap (λ p. altered one_more p held) c.requires.place ∙ sym (counted_old g.K.Key.same c.args.start.now c.args.key held old);
+      rows = c.count_up.ensures ∙ ap (λ p. altered one_more p held) c.requires.place ∙ sym (counted_old g.K.Key.same c.args.start.now c.args.key held old);
     }
 
 pub returns-else-at-len : goal.returns-else-at-len

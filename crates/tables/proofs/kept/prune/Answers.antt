@@ -6,10 +6,10 @@ use Rattle.tables.proofs.kept.prune.Goals as goal
 use Rattle.tables.proofs.kept.prune.Goals.{then-stays, else-stays}
 
 pub loop-i-init : goal.loop-i-init
-loop-i-init g c = pruning_none c.args.reach (rows c.args.held.now) (rows c.args.store.now) c.count-rows-counts.result c.count-rows-counts.ensures.long c.count-rows-counts.ensures.each
+loop-i-init g c = pruning_none c.args.reach (rows c.args.held.now) (rows c.args.store.now) c.count_rows-counts.result c.count_rows-counts.ensures.long c.count_rows-counts.ensures.each
 
-pub count-down-left-requires : goal.count-down-left-requires
-count-down-left-requires g c =
+pub count_down-left-requires : goal.count_down-left-requires
+count_down-left-requires g c =
     let held = rows c.args.held.now in
     let h : c.loop-i.i < length (rows c.args.store.now) = omega (arith, c.len-i-end.ensures.count, c.loop-i-test.true) in
     record {
@@ -26,14 +26,14 @@ loop-i-preserved g c =
     let q = c.loop-i.invariant in
     let x = c.at-one.result in
     let h : c.loop-i.i < length xs = omega (arith, c.len-i-end.ensures.count, c.loop-i-test.true) in
-    let there = c.count-down-left.new.counts in
-    let counted = c.count-down-left.ensures.counts in
-    let left = c.count-down-left.result in
-    let is_left = c.count-down-left.ensures.left in
+    let there = c.count_down-left.new.counts in
+    let counted = c.count_down-left.ensures.counts in
+    let left = c.count_down-left.result in
+    let is_left = c.count_down-left.ensures.left in
     elim c.if-stays.branch [
       | then-stays w ↦
           pruning_as
-          (pruning_keep c.args.reach held few xs ys c.loop-i.counts c.loop-i.k c.loop-i.i q x h c.at-one.ensures there counted left is_left (sym w.if-stays.true ∙ c.stays.ensures) c.args.new.now c.requires w.find-new-place.result w.find-new-place.ensures)
+          (pruning_keep c.args.reach held few xs ys c.loop-i.counts c.loop-i.k c.loop-i.i q x h c.at-one.ensures there counted left is_left (sym w.if-stays.true ∙ c.stays.ensures) c.args.new.now c.requires w.find_new-place.result w.find_new-place.ensures)
           (sym (ap rows w.store-is ∙ w.put.ensures))
           (sym w.k-is)
       | else-stays w ↦

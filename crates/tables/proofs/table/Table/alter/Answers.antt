@@ -5,8 +5,8 @@ use Rattle.tables.proofs.Edits.{rows_few, below_size, alter_places}
 use Rattle.tables.proofs.Laid.{somes_of, laid_own, length_altered}
 use Rattle.tables.proofs.table.Table.alter.Goals as goal
 
-pub offset-bounds-self-at : goal.offset-bounds-self-at
-offset-bounds-self-at g c = omega (arith, c.requires, rows_few c.args.self.now)
+pub offset_bounds-self-at : goal.offset_bounds-self-at
+offset_bounds-self-at g c = omega (arith, c.requires, rows_few c.args.self.now)
 
 pub listed : goal.listed
 listed g c = below_size c.args.self.now c.args.at c.requires
@@ -14,13 +14,13 @@ listed g c = below_size c.args.self.now c.args.at c.requires
 pub bounds-self-at : goal.bounds-self-at
 bounds-self-at g c = omega (arith, c.requires, rows_few c.args.self.now)
 
-pub invariant-of-self : goal.invariant-of-self
+pub invariant_of-self : goal.invariant_of-self
 unfolding rows
-invariant-of-self g c =
+invariant_of-self g c =
     let s = c.args.self.now in
     let f = g.C.Change.turns c.args.by.now in
     let e = alter_places s f c.args.at c.requires c.index-self-at.result c.turn.new.place c.index-self-at.is (c.turn.ensures ∙ ap (option_map f) (sym c.index-self-at.is)) in
-    (laid_own g.row.N _ _ e, (s.count ∙ sym (ap length (somes_of g.row.N _ _ e) ∙ length_altered f c.args.at (rows s)), (s.few, tt)))
+    record { packed = laid_own g.row.N _ _ e; count = s.count ∙ sym (ap length (somes_of g.row.N _ _ e) ∙ length_altered f c.args.at (rows s)); few = s.few }
 
 pub returns : goal.returns
 unfolding rows

@@ -2,8 +2,8 @@ use Rattle.std.proofs.Common.{◌∙◌, arith}
 use Rattle.tables.proofs.Edits.{rows_few, below_size, reads_some, no_none}
 use Rattle.tables.proofs.table.Table.get.Goals as goal
 
-pub offset-bounds-self-i : goal.offset-bounds-self-i
-offset-bounds-self-i g c = omega (arith, c.requires, rows_few c.args.self.now)
+pub offset_bounds-self-i : goal.offset_bounds-self-i
+offset_bounds-self-i g c = omega (arith, c.requires, rows_few c.args.self.now)
 
 pub listed : goal.listed
 listed g c = below_size c.args.self.now c.args.i c.requires

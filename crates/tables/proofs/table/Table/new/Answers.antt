@@ -3,8 +3,8 @@ use Rattle.tables.specs.Rows.{rows}
 use Rattle.tables.proofs.Laid.{blank_laid, somes_of, laid_own}
 use Rattle.tables.proofs.table.Table.new.Goals as goal
 
-pub invariant-of-result : goal.invariant-of-result
-invariant-of-result g c = (laid_own g.row.N _ [] (blank_laid g.row.N), (sym (ap length (somes_of g.row.N _ [] (blank_laid g.row.N))), (omega arith, tt)))
+pub invariant_of-result : goal.invariant_of-result
+invariant_of-result g c = record { packed = laid_own g.row.N _ [] (blank_laid g.row.N); count = sym (ap length (somes_of g.row.N _ [] (blank_laid g.row.N))); few = omega arith }
 
 pub returns : goal.returns
 unfolding rows

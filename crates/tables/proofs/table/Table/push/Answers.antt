@@ -13,16 +13,16 @@ pub bounds-self-self : goal.bounds-self-self
 unfolding rows
 bounds-self-self g c = omega (arith, c.requires, c.args.self.now.count)
 
-pub overflow-add-self : goal.overflow-add-self
+pub overflow_add-self : goal.overflow_add-self
 unfolding rows
-overflow-add-self g c = omega (arith, c.requires, c.args.self.now.count, g.N.fits)
+overflow_add-self g c = omega (arith, c.requires, c.args.self.now.count, g.N.fits)
 
-pub invariant-of-self : goal.invariant-of-self
+pub invariant_of-self : goal.invariant_of-self
 unfolding rows
-invariant-of-self g c =
+invariant_of-self g c =
     let s = c.args.self.now in
     let e = push_places s c.args.x c.requires in
-    (laid_own g.row.N _ _ e, (omega (arith, s.count, length_push (rows s) c.args.x, ap length (somes_of g.row.N _ _ e)), (omega (arith, c.requires, s.count), tt)))
+    record { packed = laid_own g.row.N _ _ e; count = omega (arith, s.count, length_push (rows s) c.args.x, ap length (somes_of g.row.N _ _ e)); few = omega (arith, c.requires, s.count) }
 
 pub returns : goal.returns
 unfolding rows

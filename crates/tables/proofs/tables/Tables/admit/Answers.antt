@@ -22,8 +22,8 @@ loop-i-init g c = record {
   rest = ap (λ groups. groups.ids) c.requires.grouped;
 }
 
-pub take-seat-seen-requires : goal.take-seat-seen-requires
-take-seat-seen-requires g c =
+pub take_seat-seen-requires : goal.take_seat-seen-requires
+take_seat-seen-requires g c =
     let q = c.loop-i.invariant in
     (search rules, (q.seated.long, omega (arith, q.few, c.loop-i-test.true, c.requires.short)))
 
@@ -33,8 +33,8 @@ bounds-places-group g c =
     let low = group_low g.K.Key.same g.met.K.Key.equality c.args.start.now c.args.blank.now c.args.accepted (lists c.args.self.now) (lists c.loop-i.self) c.args.batch.now c.args.groups.now.ids c.loop-i.places c.loop-i.seen c.loop-i.i q c.index-batch-i.result c.loop-i-test.true c.index-batch-i.is in
     omega (arith, low, q.few, c.loop-i-test.true, c.requires.short)
 
-pub admit-at-requires : goal.admit-at-requires
-admit-at-requires g c =
+pub admit_at-requires : goal.admit_at-requires
+admit_at-requires g c =
     let same = g.K.Key.same in
     let equality = g.met.K.Key.equality in
     let start = c.args.start.now in
@@ -50,7 +50,7 @@ admit-at-requires g c =
     let is = c.index-batch-i.is in
     let waits : length u.waiting < 512 = omega (arith, q.waits, c.requires.waiting, h) in
     let keeps : length u.kept < 1024 = omega (arith, q.keeps, c.requires.kept, h) in
-    let place = here same equality start blank c.args.accepted t u batch ids c.loop-i.places c.loop-i.seen i q r h is (get_or ids i 0) c.requires.short refl c.take-seat-seen.new.places c.take-seat-seen.result c.take-seat-seen.ensures.places c.take-seat-seen.ensures.count in (
+    let place = here same equality start blank c.args.accepted t u batch ids c.loop-i.places c.loop-i.seen i q r h is (get_or ids i 0) c.requires.short refl c.take_seat-seen.new.places c.take_seat-seen.result c.take_seat-seen.ensures.places c.take_seat-seen.ensures.count in (
       search rules,
       (
         waits,
@@ -72,7 +72,7 @@ loop-i-preserved g c =
     let ids = c.args.groups.now.ids in
     let i = c.loop-i.i in
     admitting_more g.K.Key.same g.met.K.Key.equality c.args.start.now c.args.blank.now c.args.accepted (lists c.args.self.now) (lists c.loop-i.self) c.args.batch.now ids c.loop-i.places c.loop-i.seen i c.loop-i.invariant c.index-batch-i.result c.loop-i-test.true c.index-batch-i.is (get_or ids i 0) c.requires.short refl
-    c.take-seat-seen.new.places c.take-seat-seen.result c.take-seat-seen.ensures.places c.take-seat-seen.ensures.count (lists c.admit-at.new.self) c.admit-at.ensures
+    c.take_seat-seen.new.places c.take_seat-seen.result c.take_seat-seen.ensures.places c.take_seat-seen.ensures.count (lists c.admit_at.new.self) c.admit_at.ensures
 
 pub returns : goal.returns
 returns g c =

@@ -20,8 +20,8 @@ loop-g-init g c =
     let all = tally_all g.K.Key.same g.met.K.Key.equality keys c.args.batch.now in
     (omega (arith, all, c.len-held.ensures.count), c.len-held.ensures.few)
 
-pub offset-bounds-batch-first : goal.offset-bounds-batch-first
-offset-bounds-batch-first g c =
+pub offset_bounds-batch-first : goal.offset_bounds-batch-first
+offset_bounds-batch-first g c =
     let firsts = group_firsts g.K.Key.same [] 0 (keys_of c.args.batch.now) in
     let low : c.loop-g.g < length firsts = omega (arith, c.loop-g-test.true, ap (λ groups. groups.count) c.requires.grouped) in
     omega (arith, ap (λ groups. get_or groups.firsts c.loop-g.g 0) c.requires.grouped, padded_read firsts c.loop-g.g low, first_low g.K.Key.same c.args.batch.now c.loop-g.g low)
@@ -32,8 +32,8 @@ bounds-batch-first g c =
     let low : c.loop-g.g < length firsts = omega (arith, c.loop-g-test.true, ap (λ groups. groups.count) c.requires.grouped) in
     omega (arith, ap (λ groups. get_or groups.firsts c.loop-g.g 0) c.requires.grouped, padded_read firsts c.loop-g.g low, first_low g.K.Key.same c.args.batch.now c.loop-g.g low)
 
-pub overflow-add-n : goal.overflow-add-n
-overflow-add-n g c =
+pub overflow_add-n : goal.overflow_add-n
+overflow_add-n g c =
     let keys = keys_of c.args.batch.now in
     let long : length keys ≡ length c.args.batch.now = length-map c.args.batch.now (λ r. r.key) in
     let few = firsts_few g.K.Key.same [] 0 keys in

@@ -21,7 +21,7 @@ returns g c =
     lists_are
     c.retain.ensures
     (c.renumber.ensures
-    ∙ ap (map (moved_by c.number-places-new.result)) c.drop-front.ensures
-    ∙ moved_is (rows s.held) c.number-places-new.result (rows_few s.held) c.number-places-new.ensures.each (drop c.args.n (rows s.waiting)))
+    ∙ ap (map (moved_by c.number_places-new.result)) c.drop_front.ensures
+    ∙ moved_is (rows s.held) c.number_places-new.result (rows_few s.held) c.number_places-new.ensures.each (drop c.args.n (rows s.waiting)))
     c.prune.ensures
     ∙ sym (some_leave c.args.reach c.args.n (lists s) some)

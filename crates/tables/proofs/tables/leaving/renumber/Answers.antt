@@ -8,7 +8,7 @@ loop-i-preserved g c =
     let w = c.at-one.result in
     let h : c.loop-i.i < length (rows c.args.waiting.now) = omega (arith, c.len-i-end.ensures.count, c.loop-i-test.true) in
     over_more c.loop-i.i w c.loop-i.invariant h c.at-one.ensures
-    (c.put.ensures ∙ ap (λ p. set (rows c.loop-i.waiting) c.loop-i.i (record { row = w.row; place = p; rank = w.rank; results = w.results })) c.find-new.ensures)
+    (c.put.ensures ∙ ap (λ p. set (rows c.loop-i.waiting) c.loop-i.i (record { row = w.row; place = p; rank = w.rank; results = w.results })) c.find_new.ensures)
 
 pub returns : goal.returns
 returns g c = over_all c.loop-i.i c.loop-i.invariant (omega (arith, c.len-i-end.ensures.count, c.loop-i-test.false))
