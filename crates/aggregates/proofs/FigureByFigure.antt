@@ -1,5 +1,5 @@
 -- One turn of the loop over the figures of a set.
-use Rattle.std.proofs.Common.{◌≡◌, ℕ, zero, suc, ◌+◌, ◌-◌, ◌<◌, Bool, List, [], ◌∷◌, length, get_or, take, set, Some, None, refl, ap, add-one, arith}
+use Rattle.std.proofs.Common.{◌≡◌, ℕ, zero, suc, ◌+◌, ◌<◌, Bool, List, [], ◌∷◌, length, get_or, take, set, Some, None, refl, ap, add-one, arith}
 use Rattle.std.specs.List.{slice_get}
 use Rattle.figures.specs.declared.carry.Carry.{Carry}
 use Rattle.figures.specs.declared.cells.Cell.{Cell}

@@ -12,56 +12,56 @@ pub loop-rank-preserved : goal.loop-rank-preserved
 loop-rank-preserved g c =
     let m = g.F.Figure in
     let f = c.args.figure.now in
-    let first = c.first-kept-first.result in
+    let first = c.first_kept-first.result in
     let cells = c.args.cells.now in
     let k = c.loop-rank.next in
     let i = c.loop-rank.rank in
     let n : ℕ = c.min-count.result in
-    let end = c.due-rows-end.result in
-    let os = c.catch-up-next.new.results in
+    let end = c.due_rows-end.result in
+    let os = c.catch_up-next.new.results in
     let room : c.min-count.result - 0 ≤ length c.loop-rank.results = omega (arith, c.min-count.ensures, c.loop-rank.invariant.2) in
     let long : length (take (c.min-count.result - 0) c.loop-rank.results) ≡ c.min-count.result = length-take-le (n - 0) c.loop-rank.results room ∙ (let e : c.min-count.result - 0 ≡ c.min-count.result = omega arith in e) in
-    let part : c.min-count.result ≤ c.due-rows-end.result - c.loop-rank.rank = omega (arith, c.min-count.ensures) in
-    let carry : c.catch-up-next.result ≡ carry_after m f k first cells i n = c.catch-up-next.ensures.carry ∙ ap (carry_after m f k first cells i) long in
-    let results : os ≡ stretch m f k first cells i n = c.catch-up-next.ensures.results ∙ ap (stretch m f k first cells i) long in
+    let part : c.min-count.result ≤ c.due_rows-end.result - c.loop-rank.rank = omega (arith, c.min-count.ensures) in
+    let carry : c.catch_up-next.result ≡ carry_after m f k first cells i n = c.catch_up-next.ensures.carry ∙ ap (carry_after m f k first cells i) long in
+    let results : os ≡ stretch m f k first cells i n = c.catch_up-next.ensures.results ∙ ap (stretch m f k first cells i) long in
     let many : length os ≡ n = ap length results ∙ length_stretch m f first cells k i n in
     let read : mid_of 0 (n - 0) (os ++ post_of 0 (n - 0) c.loop-rank.results) ≡ os = take_at os (post_of 0 (n - 0) c.loop-rank.results) (n - 0) (omega (arith, many)) in (
-      carry_part m f first cells k c.catch-up-next.result i n end part carry ∙ c.loop-rank.invariant.0,
-      written_part m f first cells k c.catch-up-next.result i n end part carry c.args.step.place c.args.number (mid_of 0 (n - 0) (os ++ post_of 0 (n - 0) c.loop-rank.results)) (rows c.loop-rank.waiting) (rows c.write-results.new.waiting) (read ∙ results) c.write-results.ensures
+      carry_part m f first cells k c.catch_up-next.result i n end part carry ∙ c.loop-rank.invariant.0,
+      written_part m f first cells k c.catch_up-next.result i n end part carry c.args.step.place c.args.number (mid_of 0 (n - 0) (os ++ post_of 0 (n - 0) c.loop-rank.results)) (rows c.loop-rank.waiting) (rows c.write_results.new.waiting) (read ∙ results) c.write_results.ensures
           ∙ c.loop-rank.invariant.1,
-      length-append os (post_of 0 (n - 0) c.loop-rank.results) ∙ (let e : length c.catch-up-next.new.results + length (drop (c.min-count.result - 0) c.loop-rank.results) ≡ 512 = omega (arith, many, length-drop (n - 0) c.loop-rank.results, c.loop-rank.invariant.2) in e),
+      length-append os (post_of 0 (n - 0) c.loop-rank.results) ∙ (let e : length c.catch_up-next.new.results + length (drop (c.min-count.result - 0) c.loop-rank.results) ≡ 512 = omega (arith, many, length-drop (n - 0) c.loop-rank.results, c.loop-rank.invariant.2) in e),
     )
 
 pub returns : goal.returns
 returns g c =
     let m = g.F.Figure in
     let f = c.args.figure.now in
-    let first = c.first-kept-first.result in
+    let first = c.first_kept-first.result in
     let cells = c.args.cells.now in
     let a = m.ahead f in
-    let none : c.due-rows-end.result - c.loop-rank.rank ≡ 0 = omega (arith, c.loop-rank-test.false) in
-    let end : c.due-rows-end.result ≡ due c.args.step.rows c.args.step.ended a = c.due-rows-end.ensures.value ∙ ap (due c.args.step.rows c.args.step.ended) c.after-after.ensures in
-    let from : c.due-rows-rank.result ≡ c.args.step.old - a = c.due-rows-rank.ensures.value ∙ ap (λ b. c.args.step.old - b) c.after-after.ensures in
-    let many : c.due-rows-end.result - c.due-rows-rank.result ≡ due c.args.step.rows c.args.step.ended a - (c.args.step.old - a) = ap (λ e. e - c.due-rows-rank.result) end ∙ ap (λ b. due c.args.step.rows c.args.step.ended a - b) from in
+    let none : c.due_rows-end.result - c.loop-rank.rank ≡ 0 = omega (arith, c.loop-rank-test.false) in
+    let end : c.due_rows-end.result ≡ due c.args.step.rows c.args.step.ended a = c.due_rows-end.ensures.value ∙ ap (due c.args.step.rows c.args.step.ended) c.after-after.ensures in
+    let from : c.due_rows-rank.result ≡ c.args.step.old - a = c.due_rows-rank.ensures.value ∙ ap (λ b. c.args.step.old - b) c.after-after.ensures in
+    let many : c.due_rows-end.result - c.due_rows-rank.result ≡ due c.args.step.rows c.args.step.ended a - (c.args.step.old - a) = ap (λ e. e - c.due_rows-rank.result) end ∙ ap (λ b. due c.args.step.rows c.args.step.ended a - b) from in
     let low : ℕ = c.args.step.rows - length cells in
     let start : ℕ = c.args.step.old - a in
     let p = c.args.step.place in
     let j = c.args.number in
     let k = c.loop-rank.next in
     let i = c.loop-rank.rank in
-    let begin = c.due-rows-rank.result in
-    let left = c.due-rows-end.result - c.due-rows-rank.result in
+    let begin = c.due_rows-rank.result in
+    let left = c.due_rows-end.result - c.due_rows-rank.result in
     let ws = rows c.args.waiting.now in
     record {
       carry = ap (carry_after m f k first cells i) (sym none)
           ∙ c.loop-rank.invariant.0
-          ∙ ap (λ x. carry_after m f c.args.carry x cells begin left) c.first-kept-first.ensures
+          ∙ ap (λ x. carry_after m f c.args.carry x cells begin left) c.first_kept-first.ensures
           ∙ ap (λ x. carry_after m f c.args.carry low cells x left) from
           ∙ ap (carry_after m f c.args.carry low cells start) many;
       waiting = sym (all_unchanged p (figure_taken j [] i) (taken_none j i) (rows c.loop-rank.waiting))
           ∙ ap (λ x. all_rewritten p (figure_taken j (stretch m f k first cells i x) i) (rows c.loop-rank.waiting)) (sym none)
           ∙ c.loop-rank.invariant.1
-          ∙ ap (λ x. all_rewritten p (figure_taken j (stretch m f c.args.carry x cells begin left) begin) ws) c.first-kept-first.ensures
+          ∙ ap (λ x. all_rewritten p (figure_taken j (stretch m f c.args.carry x cells begin left) begin) ws) c.first_kept-first.ensures
           ∙ ap (λ x. all_rewritten p (figure_taken j (stretch m f c.args.carry low cells x left) x) ws) from
           ∙ ap (λ x. all_rewritten p (figure_taken j (stretch m f c.args.carry low cells start x) start) ws) many;
     }

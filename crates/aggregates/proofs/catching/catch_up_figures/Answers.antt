@@ -12,7 +12,7 @@ use Rattle.aggregates.proofs.FigureByFigure.{nth_none, carries_more, carry_waits
 use Rattle.aggregates.proofs.Rewriting.{all_twice, all_unchanged}
 use Rattle.aggregates.proofs.WholeSet.{set_few}
 use Rattle.aggregates.proofs.catching.catch_up_figures.Goals as goal
-use Rattle.aggregates.proofs.catching.catch_up_figures.Goals.{in-Some, in-default}
+use Rattle.aggregates.proofs.catching.catch_up_figures.Goals.{in-Some, in_default}
 
 pub loop-j-init : goal.loop-j-init
 loop-j-init g c = (refl, sym (all_unchanged c.args.step.place _ (λ i os. refl) (rows c.args.waiting.now)), search rules)
@@ -38,18 +38,18 @@ loop-j-preserved g c =
           let done = next_carries m s.old s.rows s.ended cells (take j fs) ks in
           let new : Carry → ℕ → List Outcome → List Outcome = figure_renewed m s.old s.rows s.ended cells j f in (
             w.next-is
-                ∙ ap (λ r. set r j w.catch-up-figure.result) c.loop-j.invariant.0
-                ∙ ap (set done j) (w.catch-up-figure.ensures.carry ∙ ap (next_carry m s.old s.rows s.ended cells f) was)
+                ∙ ap (λ r. set r j w.catch_up_figure.result) c.loop-j.invariant.0
+                ∙ ap (set done j) (w.catch_up_figure.ensures.carry ∙ ap (next_carry m s.old s.rows s.ended cells f) was)
                 ∙ sym (carries_more m s.old s.rows s.ended cells j fs ks f fresh is),
             ap rows w.waiting-is
-                ∙ w.catch-up-figure.ensures.waiting
+                ∙ w.catch_up_figure.ensures.waiting
                 ∙ ap (all_rewritten s.place (new k)) c.loop-j.invariant.1
                 ∙ all_twice s.place (new k) before (next_results m s.old s.rows s.ended cells (take (j + 1) fs) ks)
                 (λ i os. ap (λ q. new q i (before i os)) was ∙ results_more m s.old s.rows s.ended cells j fs ks i os f fresh is within)
                 (rows c.args.waiting.now),
             ap length w.next-is ∙ simp length-set c.loop-j.invariant.2,
           )
-      | in-default w ↦ absurd (nth_none fs j few (sym w.in-default.ensures))
+      | in_default w ↦ absurd (nth_none fs j few (sym w.in_default.ensures))
     ]
 
 pub returns : goal.returns

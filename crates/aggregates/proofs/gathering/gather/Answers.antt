@@ -14,8 +14,8 @@ loop-i-preserved g c =
     let h : c.loop-i.i < length (rows c.args.kept.now) = omega (arith, c.len-i-end.ensures.count, c.loop-i-test.true) in
     let l : c.loop-i.i < 1024 = omega (arith, c.len-i-end.ensures.few, c.loop-i-test.true) in
     elim c.if-one-place.branch [
-      | then-one-place w ↦ gathered_as (gathered_one q x h c.get-one.ensures l w.if-one-place.true) _ _ w.cells-is w.count_is
-      | else-one-place w ↦ gathered_as (gathered_skip q x h c.get-one.ensures w.if-one-place.false) _ _ w.cells-is w.count_is
+      | then-one-place w ↦ gathered_as (gathered_one q x h c.get-one.ensures l w.if-one-place.true) _ _ w.cells-is w.count-is
+      | else-one-place w ↦ gathered_as (gathered_skip q x h c.get-one.ensures w.if-one-place.false) _ _ w.cells-is w.count-is
     ]
 
 pub returns : goal.returns

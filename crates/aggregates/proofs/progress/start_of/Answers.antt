@@ -6,7 +6,7 @@ use Rattle.aggregates.specs.Sets.{four}
 use Rattle.aggregates.proofs.WholeSet.{set_few, four_more}
 use Rattle.aggregates.proofs.FigureByFigure.{nth_none}
 use Rattle.aggregates.proofs.progress.start_of.Goals as goal
-use Rattle.aggregates.proofs.progress.start_of.Goals.{in-Some, in-default}
+use Rattle.aggregates.proofs.progress.start_of.Goals.{in-Some, in_default}
 
 pub loop-j-preserved : goal.loop-j-preserved
 loop-j-preserved g c =
@@ -21,7 +21,7 @@ loop-j-preserved g c =
             ∙ four_more fresh g.F.Figure.starts fs j w.in-Some.figure.now (set_few c.args.set.now) (sym w.in-Some.ensures),
         ap length w.carries-is ∙ simp length-set c.loop-j.invariant.1,
       )
-      | in-default w ↦ absurd (nth_none fs j few (sym w.in-default.ensures))
+      | in_default w ↦ absurd (nth_none fs j few (sym w.in_default.ensures))
     ]
 
 pub returns : goal.returns
