@@ -1,5 +1,5 @@
 -- What a number names in the tables of letters, columns and modes.
-use Rattle.std.proofs.Common.{◌≡◌, ℕ, false, cond, eqb, List, [], ◌∷◌, Some, None, Option, sym, refl, ap, ◌∙◌}
+use Rattle.std.proofs.Common.{◌≡◌, ℕ, cond, List, [], ◌∷◌, Some, None, Option, sym, refl, ap, ◌∙◌}
 use Rattle.std.proofs.lemmas.Bool.{ne_eqb}
 use Rattle.figures.specs.declared.cells.Column.{Column}
 use Rattle.figures.specs.declared.cells.Column.TheVariants.{C0, C1, C2, C3}

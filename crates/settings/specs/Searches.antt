@@ -1,8 +1,6 @@
 -- What checked settings say.
-use Rattle.std.specs.Prelude.{ℕ, Ok, Err, Result}
-use Rattle.figures.specs.declared.letters.LetterFigure.{LetterFigure}
+use Rattle.std.specs.Prelude.{Ok, Err, Result}
 use Rattle.figures.specs.declared.set.FigureSet.{FigureSet}
-use Rattle.figures.specs.Sets.{figures}
 use Rattle.searchers.specs.declared.modes.Mode.{Mode}
 use Rattle.searchers.specs.declared.modes.Mode.TheVariants as mode
 use Rattle.searchers.specs.Modes.{linear_mode}

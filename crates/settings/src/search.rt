@@ -45,8 +45,12 @@ impl<K: OrderedKey> PartitionSearcher<K> for Search {
 
     fn input_order_mode(&self) -> Mode {
         match self {
-            Search::Sorted(search) => SortedSearcher::<K>::input_order_mode(search),
-            Search::Linear(search) => LinearSearcher::<K>::input_order_mode(search),
+            Search::Sorted(search) => <SortedSearch as PartitionSearcher<K>>::input_order_mode(
+                search,
+            ),
+            Search::Linear(search) => <LinearSearch as PartitionSearcher<K>>::input_order_mode(
+                search,
+            ),
         }
     }
 
@@ -86,10 +90,14 @@ impl<K: OrderedKey> PartitionSearcher<K> for Search {
     ) -> usize {
         match self {
             Search::Sorted(search) => {
-                SortedSearcher::<K>::calculate_n_out_row(search, waiting, held, set)
+                <SortedSearch as PartitionSearcher<K>>::calculate_n_out_row(
+                    search, waiting, held, set,
+                )
             }
             Search::Linear(search) => {
-                LinearSearcher::<K>::calculate_n_out_row(search, waiting, held, set)
+                <LinearSearch as PartitionSearcher<K>>::calculate_n_out_row(
+                    search, waiting, held, set,
+                )
             }
         }
     }
