@@ -3,11 +3,9 @@ use Rattle.std.specs.Prelude.{ℕ, ◌+◌, ◌-◌, Bool, true, false, not, ◌
 use Rattle.std.specs.List.{prefix_len}
 use Rattle.figures.specs.declared.cells.Cell.{Cell}
 use Rattle.searchers.specs.declared.rows.Row.{Row}
-use Rattle.searchers.specs.declared.rows.Waiting.{Waiting}
 use Rattle.searchers.specs.Ends.{ended_at}
 use Rattle.tables.specs.declared.rows.OutRow.{OutRow}
 use Rattle.tables.specs.Lists.{distinct}
-use Rattle.aggregates.specs.Figures.{Figures}
 use Rattle.book.specs.Calls.{Settings, Facts, last_key}
 
 pub record Book (K : Type 0) : Type 0 where

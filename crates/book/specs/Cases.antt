@@ -1,10 +1,9 @@
 -- Calls worked by hand, on the definitions that push, finish and the letters cite.
-use Rattle.std.specs.Prelude.{◌≡◌, ℕ, false, List, [], ◌∷◌, map, length, replicate, ℤ, pos, negsuc, Some, None, Option}
+use Rattle.std.specs.Prelude.{◌≡◌, ℕ, false, List, [], ◌∷◌, map, length, ℤ, pos, negsuc, Some, None}
 use Rattle.keys.specs.declared.berth.Berth.{Berth}
 use Rattle.keys.specs.declared.route.RouteBerth.{RouteBerth}
 use Rattle.keys.specs.Berths.{same_berth, berth_order}
 use Rattle.keys.specs.Routes.{same_route_berth, route_berth_order, route_order}
-use Rattle.figures.specs.declared.cells.Cell.{Cell}
 use Rattle.figures.specs.declared.cells.Cell.TheVariants.{Absent, Number}
 use Rattle.figures.specs.declared.cells.Column.TheVariants.{C0}
 use Rattle.figures.specs.declared.cells.Outcome.{Outcome}
@@ -18,12 +17,11 @@ use Rattle.figures.specs.Rules.{meaning}
 use Rattle.searchers.specs.declared.modes.Mode.{Mode}
 use Rattle.searchers.specs.declared.modes.Mode.TheVariants.{Sorted, PartlySorted, Linear}
 use Rattle.searchers.specs.declared.rows.Row.{Row}
-use Rattle.faults.specs.declared.told.Told.{Told}
 use Rattle.faults.specs.Numbers.{of_run}
 use Rattle.tables.specs.declared.rows.OutRow.{OutRow}
 use Rattle.aggregates.specs.declared.progress.Progress.{Progress}
 use Rattle.aggregates.specs.Sets.{set_figures}
-use Rattle.book.specs.Calls.{Kind, Settings, View, Facts, After, fresh, push_refusal, pushed, finished_by}
+use Rattle.book.specs.Calls.{Kind, Settings, Facts, After, fresh, push_refusal, pushed, finished_by}
 use Rattle.book.specs.Book.{rows_of}
 use Rattle.book.specs.Law.{kept_rows}
 

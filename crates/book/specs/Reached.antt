@@ -5,7 +5,7 @@ use Rattle.searchers.specs.declared.rows.Row.{Row}
 use Rattle.faults.specs.declared.told.Told.{Told}
 use Rattle.tables.specs.declared.rows.OutRow.{OutRow}
 use Rattle.aggregates.specs.Figures.{Figures, Theory}
-use Rattle.book.specs.Calls.{Kind, Settings, View, After, fresh, pushed, finished_by}
+use Rattle.book.specs.Calls.{Kind, Settings, View, fresh, pushed, finished_by}
 use Rattle.book.specs.Book.{Book, unwritten, entered, closed}
 use Rattle.book.specs.Law.{Latest, kept_rows, Law}
 
