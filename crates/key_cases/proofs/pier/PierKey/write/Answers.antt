@@ -4,4 +4,4 @@ use Rattle.raw_bytes.proofs.Writing.{wrote_both}
 use Rattle.key_cases.proofs.pier.PierKey.write.Goals as goal
 
 pub returns : goal.returns
-returns c = wrote_both (two_bytes c.args.self.now.pier) (two_bytes c.args.self.now.berth) (omega arith) c.put-u16-next.ensures c.put-u16.ensures
+returns c = wrote_both (two_bytes c.args.self.now.pier) (two_bytes c.args.self.now.berth) (omega arith) c.put_u16-next.ensures c.put_u16.ensures
