@@ -5,16 +5,13 @@ ghost use Rattle.tables.specs.Lists.{within};
 
 use aggregates::progress::Progress;
 use figures::cells::Outcome;
-use figures::figure::Figure;
 use figures::set::FigureSet;
-use keys::key::OrderedKey;
-use searchers::search::PartitionSearcher;
 use tables::tables::Tables;
 
 pub mod calls;
 
 // A run: its settings' searcher and figures, its tables, the key of the last accepted row, and how many rows were accepted and put out.
-pub struct BoundedWindowAggStream<K: OrderedKey, S: PartitionSearcher<K>, F: Figure> {
+pub struct BoundedWindowAggStream<K, S, F> {
     tables: Tables<K, [Outcome; 4], Progress>,
     searcher: S,
     set: FigureSet<F>,

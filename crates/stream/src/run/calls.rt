@@ -44,7 +44,7 @@ fn batch_fits<K>(batch: &[Row<K>])
 impl<K: OrderedKey, S: PartitionSearcher<K>, F: Figure> BoundedWindowAggStream<K, S, F> {
     // A new run. It takes checked settings, and cannot refuse.
     pub fn new(settings: Settings<K, S, F>) -> Self
-        ensures { Makes K.Key K.OrderedKey S.PartitionSearcher F.Figure settings.searcher settings.set result }
+        ensures { Makes K.Key K.OrderedKey.own S.PartitionSearcher F.Figure settings.searcher settings.set result }
     {
         let (searcher, set) = settings.into_parts();
         BoundedWindowAggStream {
@@ -60,7 +60,7 @@ impl<K: OrderedKey, S: PartitionSearcher<K>, F: Figure> BoundedWindowAggStream<K
 
     // Looks for a cause against a push, in the order of the refusals, and groups a batch against which there is none.
     fn check_push(&self, batch: &[Row<K>], places: usize) -> Result<Groups, RunFault>
-        ensures refusal { Checks (push_refusal (settings_of K.Key K.OrderedKey S.PartitionSearcher F.Figure self.now) (view_facts (view self.now)) batch.now places) result }
+        ensures refusal { Checks (push_refusal (settings_of K.Key K.OrderedKey.own S.PartitionSearcher F.Figure self.now) (view_facts (view self.now)) batch.now places) result }
         ensures groups { Gives (grouped K.Key.same (keys_of batch.now)) result }
     {
         if self.finished {
@@ -87,11 +87,11 @@ impl<K: OrderedKey, S: PartitionSearcher<K>, F: Figure> BoundedWindowAggStream<K
         groups: &Groups,
         out: &mut [OutRow<K, [Outcome; 4]>],
     ) -> usize
-        requires passed { push_refusal (settings_of K.Key K.OrderedKey S.PartitionSearcher F.Figure self.old) (view_facts (view self.old)) batch.now (length out.old) ≡ None }
+        requires passed { push_refusal (settings_of K.Key K.OrderedKey.own S.PartitionSearcher F.Figure self.old) (view_facts (view self.old)) batch.now (length out.old) ≡ None }
         requires grouped { groups.now ≡ grouped K.Key.same (keys_of batch.now) }
-        ensures count { result ≡ length (accepted_push (settings_of K.Key K.OrderedKey S.PartitionSearcher F.Figure self.old) (view self.old) batch.now).put }
-        ensures holds { view self.new ≡ (accepted_push (settings_of K.Key K.OrderedKey S.PartitionSearcher F.Figure self.old) (view self.old) batch.now).view }
-        ensures writes { out.new ≡ (accepted_push (settings_of K.Key K.OrderedKey S.PartitionSearcher F.Figure self.old) (view self.old) batch.now).put ++ drop result out.old }
+        ensures count { result ≡ length (accepted_push (settings_of K.Key K.OrderedKey.own S.PartitionSearcher F.Figure self.old) (view self.old) batch.now).put }
+        ensures holds { view self.new ≡ (accepted_push (settings_of K.Key K.OrderedKey.own S.PartitionSearcher F.Figure self.old) (view self.old) batch.now).view }
+        ensures writes { out.new ≡ (accepted_push (settings_of K.Key K.OrderedKey.own S.PartitionSearcher F.Figure self.old) (view self.old) batch.now).put ++ drop result out.old }
         ensures stays { (self.new.searcher ≡ self.old.searcher) × (self.new.set ≡ self.old.set) }
     {
         self.last = last_key_of(self.last, batch);

@@ -22,8 +22,8 @@ returns-then-len-batch-gt1024 g c =
     (when_not_above 512 (length t.waiting + length batch) (of_run 11 0) (omega arith), tt)
     (ap Some (when_above 1024 (length t.kept + length batch) (of_run 12 0) (omega arith)))
 
-pub returns-then-keys-with-gt64 : goal.returns-then-keys-with-gt64
-returns-then-keys-with-gt64 g c =
+pub returns-then-keys_with-gt64 : goal.returns-then-keys_with-gt64
+returns-then-keys_with-gt64 g c =
     let t = lists c.args.tables.now in
     let batch = c.args.batch.now in
     first_at 2 (room_causes g.K.Key.same (length t.waiting) (length t.kept) (held_keys t.held) batch c.args.places) (of_run 13 0)

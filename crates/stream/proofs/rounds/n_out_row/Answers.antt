@@ -15,8 +15,8 @@ returns g c =
     let fs = figures c.args.set.now in
     let t = lists c.args.tables.now in
     let due = places.by_largest ahead fs in
-    let count : c.calculate-n-out-row.result ≡ leaving (largest ahead fs) t =
-    c.calculate-n-out-row.ensures.largest
+    let count : c.calculate_n_out_row.result ≡ leaving (largest ahead fs) t =
+    c.calculate_n_out_row.ensures.largest
     ∙ ap (λ held. places.leaving due held c.places.result.now) c.places-2.ensures
     ∙ ap (places.leaving due (laid 64 t.held)) c.places.ensures
     ∙ leaving_laid ahead fs t

@@ -42,7 +42,7 @@ returns-in-Some g c =
     record {
       refusal = first_at 2 (push_causes (settings_of g.K.Key g.K.OrderedKey g.S.PartitionSearcher g.F.Figure run) (view_facts (view run)) batch c.args.places) (of_run 9 c.in-Some.row)
           (ap (λ b. when b (of_run 7 0)) c.if-self.false, (when_not_above 256 (length batch) (of_run 8 0) c.if-batch-gt256.false, tt))
-          (ap (λ o. Some (out_of_order o)) (sym c.check-order.ensures.value ∙ c.in-Some.is));
+          (ap (λ o. Some (out_of_order o)) (sym c.check_order.ensures.value ∙ c.in-Some.is));
       groups = tt;
     }
 
@@ -55,39 +55,39 @@ returns-then-batch-self g c =
         ap (λ b. when b (of_run 7 0)) c.if-self.false,
         (
           when_not_above 256 (length batch) (of_run 8 0) c.if-batch-gt256.false,
-          (ap out_of_order (sym c.check-order.ensures.value ∙ c.in-default.is), tt),
+          (ap out_of_order (sym c.check_order.ensures.value ∙ c.in_default.is), tt),
         ),
       )
           (ap Some (when_above 4294967295 (run.accepted + length batch) (of_run 10 0) (omega arith)));
       groups = tt;
     }
 
-pub check-room-requires : goal.check-room-requires
-check-room-requires g c =
+pub check_room-requires : goal.check_room-requires
+check_room-requires g c =
     -- the tables have room where the run that holds them has
     let whole : Ty = param.layout (run-type.the_row (here.K-row g.row.K g.row.S g.row.F) (here.S-row g.row.K g.row.S g.row.F) (here.F-row g.row.K g.row.S g.row.F)) in
     let part : Ty = struct'.Struct.layout (struct'.Declared.shape (tables.the_type (here.K-row g.row.K g.row.S g.row.F) (array.Array outcome.the_row 4) progress.the_row)) in
     let small : size whole < 2 ^ 63 = search rules in
-    (field_room whole 0 part (up (align part) 0) refl small, (c.if-batch-gt256.false, c.evaluate-partition-batches-groups.ensures.value ∙ ap (λ rows. grouped g.K.Key.same (keys_of rows)) (take_all 256 c.args.batch.now c.if-batch-gt256.false)))
+    (field_room whole 0 part (up (align part) 0) refl small, (c.if-batch-gt256.false, c.evaluate_partition_batches-groups.ensures.value ∙ ap (λ rows. grouped g.K.Key.same (keys_of rows)) (take_all 256 c.args.batch.now c.if-batch-gt256.false)))
 
-pub returns-in-err-check-room : goal.returns-in-err-check-room
-returns-in-err-check-room g c =
+pub returns-in_err-check_room : goal.returns-in_err-check_room
+returns-in_err-check_room g c =
     let run = c.args.self.now in
     let batch = c.args.batch.now in
     let t = (view run).tables in
-    let p = err_from_is_err_and c.from-residual.result c.from-residual.ensures.1 in
+    let p = err_from_is_err_and c.from_residual.result c.from_residual.ensures.1 in
     let is = p.1 ∙ ap Err p.2 in
     record {
-      refusal = handed_on _ c.from-residual.result c.in-err-check-room.field-0.0 is
+      refusal = handed_on _ c.from_residual.result c.in_err-check_room.field-0.0 is
           (past (when run.finished (of_run 7 0) ∷ _ ∷ _ ∷ _ ∷ []) (room_causes g.K.Key.same (length t.waiting) (length t.kept) (held_keys t.held) batch c.args.places) (
             ap (λ b. when b (of_run 7 0)) c.if-self.false,
             (
               when_not_above 256 (length batch) (of_run 8 0) c.if-batch-gt256.false,
-              (ap out_of_order (sym c.check-order.ensures.value ∙ c.in-default.is), (when_not_above 4294967295 (run.accepted + length batch) (of_run 10 0) (omega arith), tt)),
+              (ap out_of_order (sym c.check_order.ensures.value ∙ c.in_default.is), (when_not_above 4294967295 (run.accepted + length batch) (of_run 10 0) (omega arith), tt)),
             ),
           )
-          ∙ c.in-err-check-room.ensures);
-      groups = gives_none _ c.from-residual.result c.in-err-check-room.field-0.0 is;
+          ∙ c.in_err-check_room.ensures);
+      groups = gives_none _ c.from_residual.result c.in_err-check_room.field-0.0 is;
     }
 
 pub returns : goal.returns
@@ -100,9 +100,9 @@ returns g c =
             ap (λ b. when b (of_run 7 0)) c.if-self.false,
             (
               when_not_above 256 (length batch) (of_run 8 0) c.if-batch-gt256.false,
-              (ap out_of_order (sym c.check-order.ensures.value ∙ c.in-default.is), (when_not_above 4294967295 (run.accepted + length batch) (of_run 10 0) (omega arith), tt)),
+              (ap out_of_order (sym c.check_order.ensures.value ∙ c.in_default.is), (when_not_above 4294967295 (run.accepted + length batch) (of_run 10 0) (omega arith), tt)),
             ),
           )
-          ∙ c.in-ok-check-room.ensures;
-      groups = c.evaluate-partition-batches-groups.ensures.value ∙ ap (λ rows. grouped g.K.Key.same (keys_of rows)) (take_all 256 c.args.batch.now c.if-batch-gt256.false);
+          ∙ c.in_ok-check_room.ensures;
+      groups = c.evaluate_partition_batches-groups.ensures.value ∙ ap (λ rows. grouped g.K.Key.same (keys_of rows)) (take_all 256 c.args.batch.now c.if-batch-gt256.false);
     }

@@ -23,12 +23,12 @@ new-requires g c =
     let small : size whole < 2 ^ 63 = search rules in
     field_room whole 0 part (up (align part) 0) refl small
 
-pub invariant-of-result : goal.invariant-of-result
-invariant-of-result g c = (sym (ap (λ t. 0 + length t.waiting) c.new.ensures), (ap (λ t. within 0 t.held) c.new.ensures, tt))
+pub invariant_of-result : goal.invariant_of-result
+invariant_of-result g c = record { counted = sym (ap (λ t. 0 + length t.waiting) c.new.ensures); few = ap (λ t. within 0 t.held) c.new.ensures }
 
 pub returns : goal.returns
 returns g c = record {
-  searcher_is = c.into-parts-searcher.ensures.searcher;
-  set_is = c.into-parts-searcher.ensures.set;
+  searcher_is = c.into_parts-searcher.ensures.searcher;
+  set_is = c.into_parts-searcher.ensures.set;
   holds = ap (λ t. record { tables = t; last = None; accepted = 0; out = 0; finished = false }) c.new.ensures;
 }
