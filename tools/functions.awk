@@ -21,7 +21,7 @@ function past_angles(s,    i, deep, c) {
 # head is whole: up to the brace of the body or the semicolon of a declaration.
 function whole(head,    at, i, deep, c, word, inside) {
     words = ""
-    while (match(head, /(^|[ \t\n])(requires|ensures)([ \t\n]+[A-Za-z_][A-Za-z0-9_]*)?[ \t\n]*\{/)) {
+    while (match(head, /(^|[ \t\n])(requires|ensures)\*?([ \t\n]+[A-Za-z_][A-Za-z0-9_]*)?[ \t\n]*\{/)) {
         at = RSTART
         word = substr(head, RSTART, RLENGTH) ~ /requires/ ? "requires" : "ensures"
         i = RSTART + RLENGTH
