@@ -16,8 +16,8 @@ use Rattle.settings.specs.declared.raw.RawSettings.{RawSettings}
 
 -- the first of some whose number it is, or none
 abbrev pub named : {X : Type 0} → (X → ℕ) → List X → ℕ → Option X
-named number_of_lem [] n = None
-named number_of_lem (x ∷ xs) n = cond (number_of_lem x == n) (Some x) (named number_of_lem xs n)
+named number_of [] n = None
+named number_of (x ∷ xs) n = cond (number_of x == n) (Some x) (named number_of xs n)
 
 abbrev pub letters : List Letter
 letters =
