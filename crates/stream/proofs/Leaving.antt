@@ -2,9 +2,7 @@
 use Rattle.std.proofs.Common.{◌≡◌, ℕ, zero, suc, ◌+◌, ◌-◌, Bool, true, false, cond, ◌||◌, ltb, List, [], ◌∷◌, ◌++◌, map, length, replicate, Some, None, Option, sym, refl, ap, ◌∙◌}
 use Rattle.std.specs.List.{prefix_len, slice_get}
 use Rattle.figures.specs.Sets.{largest}
-use Rattle.searchers.specs.declared.leaving.Standing.{Standing}
 use Rattle.searchers.specs.declared.leaving.Standing.TheVariants.{Ended, Open}
-use Rattle.searchers.specs.declared.rows.Waiting.{Waiting}
 use Rattle.searchers.specs.declared.rows.Held.{Held}
 use Rattle.searchers.specs.Leaving as places
 use Rattle.tables.specs.Lists.{Lists, value_at}

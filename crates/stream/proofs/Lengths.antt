@@ -1,8 +1,7 @@
 -- How many rows wait after each step of a push.
-use Rattle.std.proofs.Common.{◌≡◌, ℕ, zero, suc, ◌+◌, ◌-◌, ◌≤◌, Bool, List, [], ◌∷◌, ◌++◌, map, length, take, drop, sym, refl, ap, ◌∙◌, arith}
+use Rattle.std.proofs.Common.{◌≡◌, ℕ, zero, suc, ◌+◌, ◌-◌, ◌≤◌, Bool, List, [], ◌∷◌, map, length, take, drop, ◌∙◌, arith}
 use Rattle.std.proofs.lemmas.List.{length-append, length-map, length-drop, length-take-le}
 use Rattle.searchers.specs.declared.rows.Row.{Row}
-use Rattle.searchers.specs.Ends.{marked}
 use Rattle.tables.specs.Lists.{Lists, out_row, admit, admitted, mark, moved, let_go}
 use Rattle.aggregates.specs.Figures.{Figures}
 use Rattle.aggregates.specs.CatchingUp.{written}

@@ -1,5 +1,5 @@
 -- The rows out of a run over letters have each letter's line: the premises of that theorem hold of every run that is reached.
-use Rattle.std.proofs.Common.{◌≡◌, ℕ, suc, ◌+◌, ◌-◌, ◌^◌, ◌<◌, ◌≤◌, Bool, true, false, cond, not, List, [], ◌∷◌, ◌++◌, map, length, take, replicate, Some, None, Ok, Err, filter, Option, Result, sym, refl, ap, ◌∙◌, subst, arith}
+use Rattle.std.proofs.Common.{◌≡◌, suc, ◌+◌, ◌-◌, ◌^◌, ◌<◌, ◌≤◌, Bool, cond, not, List, [], ◌∷◌, ◌++◌, map, length, take, replicate, Some, None, Ok, Err, Option, refl, ap, ◌∙◌, subst, arith}
 use Rattle.std.specs.List.{AllByRecursion}
 use Rattle.std.proofs.lemmas.List.Elements.{filter-append}
 use Rattle.std.proofs.ByRecursion.{All-append, All-map, all_kept_by, All-take, All-weaker}
@@ -8,7 +8,6 @@ use Rattle.std.proofs.lemmas.List.Filters.{length-filter_both}
 use Rattle.keys.specs.declared.key.Key as key
 use Rattle.keys.specs.declared.key.OrderedKey as ordered
 use Rattle.keys.specs.Laws.{Equality}
-use Rattle.figures.specs.declared.cells.Cell.{Cell}
 use Rattle.figures.specs.declared.cells.Outcome.{Outcome}
 use Rattle.figures.specs.declared.cells.Outcome.TheVariants.{Missing}
 use Rattle.figures.specs.declared.figure.Figure as figure
@@ -23,13 +22,12 @@ use Rattle.searchers.specs.declared.rows.Row.{Row}
 use Rattle.faults.specs.declared.told.Told.{Told}
 use Rattle.tables.specs.declared.rows.OutRow.{OutRow}
 use Rattle.aggregates.specs.declared.progress.Progress.{Progress}
-use Rattle.aggregates.specs.Sets.{four}
-use Rattle.book.specs.Calls.{Settings, View, After, push_refusal, finish_refusal, view_facts, accepted_push, accepted_finish, unless, pushed, finished_by}
+use Rattle.book.specs.Calls.{Settings, View, push_refusal, finish_refusal, view_facts, accepted_push, accepted_finish, unless}
 use Rattle.book.specs.Book.{Book, Ranked, rows_of, cells_of, ranked, in_turn, afresh, entered, closed}
 use Rattle.book.specs.Law.{Latest, Law}
 use Rattle.book.specs.Reached as on-lists
 use Rattle.stream.specs.declared.run.BoundedWindowAggStream.{BoundedWindowAggStream}
-use Rattle.stream.specs.Views.{view, settings_of, Pushes}
+use Rattle.stream.specs.Views.{view, settings_of}
 use Rattle.stream.specs.Reached.{booked, lined, Reached, made, push, finish, RunsLawful, LinesOut}
 use Rattle.stream.proofs.Passes.{passed}
 use Rattle.stream.proofs.Plays.{views_reached}

@@ -1,5 +1,5 @@
 -- What a push that is not refused knows.
-use Rattle.std.proofs.Common.{◌≡◌, ℕ, ◌+◌, ◌^◌, ◌<◌, ◌≤◌, Bool, true, false, List, length, None, refl, ap, arith}
+use Rattle.std.proofs.Common.{◌≡◌, ℕ, ◌+◌, ◌^◌, ◌<◌, ◌≤◌, Bool, true, false, List, length, None, refl, arith}
 use Rattle.searchers.specs.declared.rows.Row.{Row}
 use Rattle.faults.specs.declared.told.Told.{Told}
 use Rattle.faults.specs.Causes.{when}

@@ -1,5 +1,5 @@
 -- From runs to the lists that they hold: every run that is reached holds what is reached on lists.
-use Rattle.std.proofs.Common.{◌≡◌, ℕ, List, [], ◌∷◌, ◌++◌, length, take, drop, Some, None, Ok, Err, Option, Result, sym, refl, ap, ◌∙◌, subst, arith}
+use Rattle.std.proofs.Common.{◌≡◌, ℕ, List, [], ◌++◌, length, drop, Some, None, Ok, Err, Option, Result, sym, refl, ap, ◌∙◌, subst, arith}
 use Rattle.std.proofs.lemmas.List.{take_at}
 use Rattle.keys.specs.declared.key.Key as key
 use Rattle.keys.specs.declared.key.OrderedKey as ordered
@@ -12,12 +12,12 @@ use Rattle.faults.specs.declared.told.Told.{Told}
 use Rattle.faults.specs.Numbers.{run_told, answered}
 use Rattle.tables.specs.declared.rows.OutRow.{OutRow}
 use Rattle.aggregates.specs.declared.progress.Progress.{Progress}
-use Rattle.book.specs.Calls.{Settings, View, After, push_refusal, finish_refusal, view_facts, accepted_push, accepted_finish, unless, pushed, finished_by}
+use Rattle.book.specs.Calls.{View, After, push_refusal, finish_refusal, view_facts, accepted_push, accepted_finish, unless, pushed, finished_by}
 use Rattle.book.specs.Book.{Book, entered, closed}
 use Rattle.book.specs.Law.{Latest, kept_rows}
 use Rattle.book.specs.Reached as on-lists
 use Rattle.stream.specs.declared.run.BoundedWindowAggStream.{BoundedWindowAggStream}
-use Rattle.stream.specs.Views.{view, answer, settings, settings_of, Leaves, Pushes}
+use Rattle.stream.specs.Views.{view, answer, settings, settings_of, Leaves}
 use Rattle.stream.specs.Reached.{booked, taken, latest_call, Reached, made, push, finish}
 
 -- no call is both accepted and refused

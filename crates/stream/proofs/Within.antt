@@ -1,13 +1,13 @@
 -- No key has more rows than were accepted: each step of a call keeps that.
-use Rattle.std.proofs.Common.{◌≡◌, ℕ, zero, suc, ◌+◌, ◌≤◌, Bool, true, false, cond, ◌&&◌, leb, List, [], ◌∷◌, map, length, filter, sym, refl, ap, ◌∙◌, arith}
+use Rattle.std.proofs.Common.{◌≡◌, ℕ, zero, suc, ◌+◌, ◌≤◌, Bool, true, false, cond, ◌&&◌, leb, List, [], ◌∷◌, map, length, filter, refl, ap, ◌∙◌, arith}
 use Rattle.std.proofs.lemmas.Bool.Decides.{nat_tests}
 use Rattle.searchers.specs.declared.rows.Row.{Row}
 use Rattle.searchers.specs.declared.rows.Held.{Held}
 use Rattle.searchers.specs.Ends.{marked}
 use Rattle.tables.specs.declared.rows.Kept.{Kept}
-use Rattle.tables.specs.Lists.{Lists, within, one_more, counted_in, admit, admitted, mark, let_go}
+use Rattle.tables.specs.Lists.{Lists, within, one_more, counted_in, admit, admitted, let_go}
 use Rattle.aggregates.specs.Figures.{Figures}
-use Rattle.aggregates.specs.CatchingUp.{forwarded, caught_up}
+use Rattle.aggregates.specs.CatchingUp.{forwarded}
 use Rattle.stream.specs.Steps.{readied_with}
 
 both : (a b : Bool) → a ≡ true → b ≡ true → (a && b) ≡ true

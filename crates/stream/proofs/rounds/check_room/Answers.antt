@@ -1,5 +1,5 @@
 -- Each way out is the first cause, since those in front of it are not there.
-use Rattle.std.proofs.Common.{◌≡◌, ℕ, ◌+◌, List, length, Some, ap, arith}
+use Rattle.std.proofs.Common.{◌+◌, length, Some, ap, arith}
 use Rattle.faults.specs.Numbers.{of_run}
 use Rattle.tables.specs.Lists.{held_keys, distinct}
 use Rattle.tables.specs.Whole.{lists}

@@ -1,7 +1,7 @@
 -- The waiting rows are as many after they got their results.
-use Rattle.std.proofs.Common.{◌≡◌, true, List, ◌++◌, map, length, take, drop, sym, ap, ◌∙◌, arith, rules}
+use Rattle.std.proofs.Common.{◌≡◌, true, ◌++◌, map, length, drop, ap, ◌∙◌, arith, rules}
 use Rattle.std.proofs.lemmas.List.{length-map, take_all}
-use Rattle.tables.specs.Lists.{Lists, mark, out_row}
+use Rattle.tables.specs.Lists.{mark, out_row}
 use Rattle.tables.specs.Whole.{lists}
 use Rattle.aggregates.specs.CatchingUp.{written, caught_up}
 use Rattle.aggregates.specs.Sets.{set_figures}

@@ -1,4 +1,4 @@
-use Rattle.std.proofs.Common.{◌≡◌, ap, ◌∙◌, arith, rules}
+use Rattle.std.proofs.Common.{ap, ◌∙◌, arith, rules}
 use Rattle.tables.specs.Lists.{let_go}
 use Rattle.tables.specs.Whole.{lists}
 use Rattle.stream.proofs.rounds.let_leave.Goals as goal

@@ -1,11 +1,10 @@
 -- Each way out is the first cause, since those in front of it are not there.
-use Rattle.std.proofs.Common.{◌≡◌, ℕ, ◌+◌, ◌^◌, ◌<◌, Bool, List, [], ◌∷◌, length, Some, Err, Option, sym, refl, ap, ◌∙◌, arith, rules}
+use Rattle.std.proofs.Common.{◌+◌, ◌^◌, ◌<◌, [], ◌∷◌, length, Some, Err, sym, refl, ap, ◌∙◌, arith, rules}
 use Rattle.std.proofs.lemmas.List.{take_all}
 use Rattle.std.proofs.lemmas.Result.{err_from_is_err_and}
 use Rattle.searchers.specs.Groups.{grouped}
 use Rattle.searchers.specs.Order.{keys_of}
-use Rattle.faults.specs.declared.told.Told.{Told}
-use Rattle.faults.specs.Causes.{when, first_of}
+use Rattle.faults.specs.Causes.{when}
 use Rattle.faults.specs.Numbers.{of_run}
 use Rattle.tables.specs.Lists.{held_keys}
 use Rattle.book.specs.Calls.{out_of_order, room_causes, push_causes, view_facts}

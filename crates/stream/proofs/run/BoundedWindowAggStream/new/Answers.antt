@@ -1,7 +1,5 @@
-use Rattle.std.proofs.Common.{◌≡◌, ◌+◌, ◌^◌, ◌<◌, false, length, None, sym, refl, ap, ◌∙◌, rules}
+use Rattle.std.proofs.Common.{◌+◌, ◌^◌, ◌<◌, false, length, None, sym, refl, ap, rules}
 use Rattle.tables.specs.Lists.{within}
-use Rattle.tables.specs.Whole.{lists}
-use Rattle.book.specs.Calls.{View}
 use mir.Syntax.{Ty}
 use prog.Memory.{up, align, size}
 use denote.Array as array
