@@ -23,21 +23,21 @@ bind_some : {X Y : Type 0} (o : Option X) (f : X → Option Y) (y : Y) → and_t
 bind_some None f y h = absurd (none_some h)
 bind_some (Some x) f y h = (x, refl, h)
 
-is_some : {X : Type 0} (x y : X) → ◌≡◌ {A = Option X} (Some x) (Some y) → x ≡ y
-is_some x y h = cc
+some_injective : {X : Type 0} (x y : X) → ◌≡◌ {A = Option X} (Some x) (Some y) → x ≡ y
+some_injective x y h = cc
 
 added_only : (s : CallSign) (l : Letter) (t : CallSign) → added s l ≡ Some t → sign_bytes t ≡ sign_bytes s ++ code l ∷ []
-added_only (One a) l t h = ap sign_bytes (sym (is_some _ t h))
-added_only (Two a b) l t h = ap sign_bytes (sym (is_some _ t h))
-added_only (Three a b c) l t h = ap sign_bytes (sym (is_some _ t h))
-added_only (Four a b c d) l t h = ap sign_bytes (sym (is_some _ t h))
-added_only (Five a b c d e) l t h = ap sign_bytes (sym (is_some _ t h))
-added_only (Six a b c d e f) l t h = ap sign_bytes (sym (is_some _ t h))
-added_only (Seven a b c d e f g) l t h = ap sign_bytes (sym (is_some _ t h))
+added_only (One a) l t h = ap sign_bytes (sym (some_injective _ t h))
+added_only (Two a b) l t h = ap sign_bytes (sym (some_injective _ t h))
+added_only (Three a b c) l t h = ap sign_bytes (sym (some_injective _ t h))
+added_only (Four a b c d) l t h = ap sign_bytes (sym (some_injective _ t h))
+added_only (Five a b c d e) l t h = ap sign_bytes (sym (some_injective _ t h))
+added_only (Six a b c d e f) l t h = ap sign_bytes (sym (some_injective _ t h))
+added_only (Seven a b c d e f g) l t h = ap sign_bytes (sym (some_injective _ t h))
 added_only (Eight a b c d e f g h) l t q = absurd (none_some q)
 
 grown_only : (s : CallSign) (bs : List ℕ) (t : CallSign) → grown s bs ≡ Some t → sign_bytes t ≡ sign_bytes s ++ bs
-grown_only s [] t h = ap sign_bytes (sym (is_some s t h)) ∙ sym (append-nil (sign_bytes s))
+grown_only s [] t h = ap sign_bytes (sym (some_injective s t h)) ∙ sym (append-nil (sign_bytes s))
 grown_only s (b ∷ bs) t h =
     let p = bind_some (letter_of b) (λ l. and_then (added s l) (λ u. grown u bs)) t h in
     let q = bind_some (added s p.0) (λ u. grown u bs) t p.2 in

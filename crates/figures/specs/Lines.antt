@@ -1,5 +1,5 @@
 -- The letters' lines: each letter's result in the words of SQL (ISO/IEC 9075-2, frames in ROWS), over the whole partition, which is the list of all the rows of a key. An absent cell is a null: the aggregates leave it out, and the others respect it.
-use Rattle.std.specs.Prelude.{◌≡◌, ℕ, suc, ◌+◌, ◌-◌, ◌/◌, ◌^◌, ◌<◌, Bool, cond, ◌&&◌, leb, List, [], ◌∷◌, length, ℤ, pos, negsuc, ◌+ℤ◌, neg_ℤ, ◌≤ℤ◌, Some, None, fold, Option, nat_le}
+use Rattle.std.specs.Prelude.{◌≡◌, ℕ, suc, ◌+◌, ◌-◌, ◌/◌, ◌^◌, ◌<◌, Bool, cond, ◌&&◌, List, [], ◌∷◌, length, ℤ, pos, negsuc, ◌+ℤ◌, neg_ℤ, ◌≤ℤ◌, Some, None, fold, Option, nat_le}
 use Rattle.std.specs.List.{ContainsAt, AllByRecursion, slice_get}
 use Rattle.figures.specs.declared.cells.Cell.{Cell}
 use Rattle.figures.specs.declared.cells.Column.{Column}
@@ -26,7 +26,7 @@ rows_between b a i rows = picked (λ j. nat_le i (j + b) && nat_le j (i + a)) 0 
 
 -- ROWS BETWEEN UNBOUNDED PRECEDING AND CURRENT ROW
 abbrev pub rows_so_far : {X : Type 0} → ℕ → List X → List X
-rows_so_far i rows = picked (λ j. leb j i) 0 rows
+rows_so_far i rows = picked (λ j. nat_le j i) 0 rows
 
 abbrev pub first_of : {X : Type 0} → List X → Option X
 first_of [] = None

@@ -1,5 +1,5 @@
 -- A hash table over the different keys of a batch: a slot holds 0, or a key's number and 1.
-use Rattle.std.specs.Prelude.{◌≡◌, ℕ, ◌+◌, ◌%◌, ◌<◌, ◌≤◌, Bool, false, List, [], ◌∷◌, map, length, get_or, count_by, nat_lt, slice_index, slice_index_or}
+use Rattle.std.specs.Prelude.{◌≡◌, ℕ, ◌+◌, ◌%◌, ◌<◌, ◌≤◌, Bool, false, List, [], ◌∷◌, map, length, count_by, nat_lt, slice_index, slice_index_or}
 use Rattle.searchers.specs.Groups.{place}
 
 -- the slot at e steps from a hash's own
@@ -14,7 +14,7 @@ Taken slots h e = (k : ℕ) → k < e → 0 < slice_index slots (slot h k)
 pub record Reached (slots : List ℕ) (h g : ℕ) : Type 0 where
   pub far : ℕ
   pub near : far < 512
-  pub there : get_or slots (slot h far) 0 ≡ g + 1
+  pub there : slice_index slots (slot h far) ≡ g + 1
   pub way : Taken slots h far
 
 pub record Sound {K : Type 0} (same : K → K → Bool) (hashed : K → ℕ) (seen : List K) (slots : List ℕ) : Type 0 where
@@ -31,13 +31,13 @@ pub record Landed {K : Type 0} (same : K → K → Bool) (hashed : K → ℕ) (s
   pub near : far < 512
   pub is : at ≡ slot (hashed key) far
   pub way : Taken slots (hashed key) far
-  pub none : get_or slots at 0 ≡ 0 → place same key seen ≡ length seen
+  pub none : slice_index slots at ≡ 0 → place same key seen ≡ length seen
   pub some : 0 < slice_index slots at → (place same key seen + 1 ≡ slice_index slots at) × (place same key seen < length seen)
 
 -- the keys that stand at some places; the first key stands for a place past the end
 abbrev pub picked : {K : Type 0} → List K → List ℕ → List K
 picked [] ps = []
-picked (k ∷ ks) ps = map (λ p. get_or (k ∷ ks) p k) ps
+picked (k ∷ ks) ps = map (λ p. slice_index_or (k ∷ ks) p k) ps
 
 -- every place is one of n
 abbrev pub Inside : ℕ → List ℕ → Type 0
