@@ -1,10 +1,9 @@
 -- A key for which nothing came: neither a row nor its end.
 use Rattle.std.proofs.Common.{◌≡◌, ℕ, ◌-◌, Bool, false, List, [], ◌∷◌, length, refl, ap, ◌∙◌, arith}
 use Rattle.figures.specs.declared.carry.Carry.{Carry}
-use Rattle.figures.specs.declared.cells.Cell.{Cell}
-use Rattle.figures.specs.declared.cells.Outcome.{Outcome}
 use Rattle.figures.specs.declared.figure.Figure as figure
 use Rattle.figures.specs.Catching.{due, stretch, carry_after}
+use Rattle.figures.specs.Cells.{Cell, Outcome}
 use Rattle.aggregates.specs.Sets.{due_from, newly_due, next_carry, next_carries, next_result, next_results}
 use Rattle.aggregates.specs.Writing.{result_among}
 use Rattle.aggregates.proofs.Splitting.{among_none}

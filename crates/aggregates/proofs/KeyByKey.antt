@@ -1,6 +1,7 @@
 -- One turn of the loop over the held keys: those before a place are caught up.
 use Rattle.std.proofs.Common.{◌≡◌, ℕ, zero, suc, ◌+◌, ◌<◌, ◌≤◌, List, [], ◌∷◌, ◌++◌, map, length, get_or, take, drop, set, sym, refl, ap, ◌∙◌, ⊎_elim, append-nil, add-one, arith}
 use mathlib.Core.List.{map-map}
+use mathlib.Core.Path.{fun_ext}
 use Rattle.std.proofs.lemmas.List.{take_all, drop_all, set-get_or}
 use Rattle.std.proofs.lemmas.Bool.{cases_eq, eq-eqb, ne_eqb}
 use Rattle.searchers.specs.declared.rows.Waiting.{Waiting}
@@ -10,7 +11,7 @@ use Rattle.tables.specs.Lists.{Lists, value_at}
 use Rattle.aggregates.specs.Figures.{Figures}
 use Rattle.aggregates.specs.CatchingUp.{cells_at, forwarded_key, forwarded, written, caught_up}
 use Rattle.aggregates.specs.Writing.{rewritten, all_rewritten}
-use Rattle.aggregates.proofs.Rewriting.{map_alike, at_place, elsewhere, all_unchanged}
+use Rattle.aggregates.proofs.Rewriting.{at_place, elsewhere, all_unchanged}
 
 module _ {X Y : Type 0} (f : X → Y) (d : Y) where
   value_past : (xs : List X) (p i : ℕ) → p ≤ i → value_at f d (take p xs) i ≡ d
@@ -78,7 +79,7 @@ module _ {K R P : Type 0} (f : Figures P R) (kept : List (Kept K)) where
       → all_rewritten p (f.write e.progress e.rows e.ended (cells_at p kept)) (map (written f kept (take p held)) waiting) ≡ map (written f kept (take (p + 1) held)) waiting
   written_more p held e h is waiting =
       map-map (rewritten p (f.write e.progress e.rows e.ended (cells_at p kept))) (written f kept (take p held)) waiting
-      ∙ rw add-one (map_alike _ (written f kept (take (suc p) held)) (written_suc p held e h is) waiting)
+      ∙ rw add-one (ap (λ (change : Waiting K R → Waiting K R). map change waiting) (fun_ext (written_suc p held e h is)))
 
   written_none : (waiting : List (Waiting K R)) → map (written f kept []) waiting ≡ waiting
   written_none [] = refl

@@ -4,6 +4,4 @@ pub mod Rewriting
 pub mod Splitting
 pub mod FigureByFigure
 pub mod KeyByKey
-pub mod Gathered
-pub mod Written
 pub mod Idle

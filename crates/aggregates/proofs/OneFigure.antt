@@ -1,16 +1,14 @@
 -- One figure of a key that is caught up.
-use Rattle.std.proofs.Common.{◌≡◌, ℕ, ◌+◌, ◌-◌, ◌<◌, ◌≤◌, Bool, true, false, cond, ltb, List, ◌++◌, map, length, get_or, drop, sym, refl, ap, ◌∙◌, ⊎_elim, arith}
+use Rattle.std.proofs.Common.{◌≡◌, ℕ, ◌+◌, ◌-◌, ◌<◌, ◌≤◌, Bool, true, false, cond, ltb, List, ◌++◌, map, length, get_or, drop, sym, refl, ap, ◌∙◌, ⊎_elim, arith, None}
 use Rattle.std.specs.List.{range_with_len}
 use Rattle.std.proofs.lemmas.List.FromFn.{get_or-map-range_with_len, length-map-range_with_len}
 use Rattle.std.proofs.lemmas.List.{length-append, length-drop, get_or_past}
 use Rattle.std.proofs.lemmas.Bool.{cases_lt, lt-ltb, le-ltb, cond-true, cond-false}
-use Rattle.figures.specs.declared.cells.Cell.{Cell}
-use Rattle.figures.specs.declared.cells.Outcome.{Outcome}
-use Rattle.figures.specs.declared.cells.Outcome.TheVariants.{Missing}
 use Rattle.figures.specs.declared.carry.Carry.{Carry}
 use Rattle.figures.specs.declared.figure.Figure as figure
 use Rattle.figures.specs.Catching.{due, is_due, stretch, Held, UpToDate, BroughtUp, KeepsUp, caught_up}
 use Rattle.figures.specs.Results.{carried, outcome_of}
+use Rattle.figures.specs.Cells.{Cell, Outcome}
 use Rattle.aggregates.specs.Sets.{due_from, newly_due, next_carry, next_result, if_due}
 
 -- the ranks with a due result are those below the number of the due results
@@ -68,13 +66,13 @@ module _ {F : Type 0} (g : figure.Ghosts F) (theory : KeepsUp g) where
         let old : Outcome = if_due g false xs i f in
         let all : List (List Cell) = xs ++ ys in
         let is : is_due (length (xs ++ ys)) ended (g.ahead f) i ≡ ltb i (due (length (xs ++ ys)) ended (g.ahead f)) = due_below (length (xs ++ ys)) ended (g.ahead f) i h in
-        let new : if_due g ended (xs ++ ys) i f ≡ cond (ltb i (due (length (xs ++ ys)) ended (g.ahead f))) (outcome_of g f (xs ++ ys) i) Missing = ap (λ b. cond b (outcome_of g f all i) Missing) is in
+        let new : if_due g ended (xs ++ ys) i f ≡ cond (ltb i (due (length (xs ++ ys)) ended (g.ahead f))) (outcome_of g f (xs ++ ys) i) None = ap (λ b. cond b (outcome_of g f all i) None) is in
         ⊎_elim
         (λ (below : i < due (length xs) false (g.ahead f)).
         cond-true (ltb i from) old _ (lt-ltb i from below)
-        ∙ cond-true (is_due (length xs) false (g.ahead f) i) (outcome_of g f xs i) Missing (lt-ltb (i + g.ahead f) (length xs) (omega arith))
+        ∙ cond-true (is_due (length xs) false (g.ahead f) i) (outcome_of g f xs i) None (lt-ltb (i + g.ahead f) (length xs) (omega arith))
         ∙ sym (brought.stays i below)
-        ∙ sym (cond-true (ltb i to) (outcome_of g f all i) Missing (lt-ltb i to (omega arith)))
+        ∙ sym (cond-true (ltb i to) (outcome_of g f all i) None (lt-ltb i to (omega arith)))
         ∙ sym new)
         (λ (above : due (length xs) false (g.ahead f) ≤ i).
         cond-false (ltb i from) old _ (le-ltb i from above)
@@ -82,12 +80,12 @@ module _ {F : Type 0} (g : figure.Ghosts F) (theory : KeepsUp g) where
         ∙ ⊎_elim
         (λ (below : i < due (length (xs ++ ys)) ended (g.ahead f)).
         get_or-map-range_with_len (outcome_of g f all) from (to - from) (i - from) i old (omega arith) (omega arith)
-        ∙ sym (cond-true (ltb i to) (outcome_of g f all i) Missing (lt-ltb i to below))
+        ∙ sym (cond-true (ltb i to) (outcome_of g f all i) None (lt-ltb i to below))
         ∙ sym new)
         (λ (past : due (length (xs ++ ys)) ended (g.ahead f) ≤ i).
         get_or_past (map (outcome_of g f all) (range_with_len from (to - from))) (i - from) old (omega (arith, length-map-range_with_len (outcome_of g f all) from (to - from)))
-        ∙ cond-false (is_due (length xs) false (g.ahead f) i) (outcome_of g f xs i) Missing (le-ltb (i + g.ahead f) (length xs) (omega arith))
-        ∙ sym (cond-false (ltb i to) (outcome_of g f all i) Missing (le-ltb i to past))
+        ∙ cond-false (is_due (length xs) false (g.ahead f) i) (outcome_of g f xs i) None (le-ltb (i + g.ahead f) (length xs) (omega arith))
+        ∙ sym (cond-false (ltb i to) (outcome_of g f all i) None (le-ltb i to past))
         ∙ sym new)
         (cases_lt i to))
         (cases_lt i from)

@@ -1,13 +1,11 @@
 -- A stretch of a figure's results, worked out and written in two parts.
-use Rattle.std.proofs.Common.{◌≡◌, ℕ, zero, suc, ◌+◌, ◌-◌, ◌<◌, ◌≤◌, ltb, List, [], ◌∷◌, ◌++◌, length, get_or, set, sym, refl, ap, ◌∙◌, ⊎_elim, arith}
+use Rattle.std.proofs.Common.{◌≡◌, ℕ, zero, suc, ◌+◌, ◌-◌, ◌<◌, ◌≤◌, ltb, List, [], ◌∷◌, ◌++◌, length, get_or, set, sym, refl, ap, ◌∙◌, ⊎_elim, arith, None}
 use Rattle.std.proofs.lemmas.List.{get_or_append_left, get_or-append_right, get_or_past, set-get_or}
 use Rattle.std.proofs.lemmas.Bool.{cases_lt, lt-ltb, le-ltb, cond-true, cond-false}
 use Rattle.figures.specs.declared.carry.Carry.{Carry}
-use Rattle.figures.specs.declared.cells.Cell.{Cell}
-use Rattle.figures.specs.declared.cells.Outcome.{Outcome}
-use Rattle.figures.specs.declared.cells.Outcome.TheVariants.{Missing}
 use Rattle.figures.specs.declared.figure.Figure as figure
 use Rattle.figures.specs.Catching.{worked, passed, stretch, carry_after}
+use Rattle.figures.specs.Cells.{Cell, Outcome}
 use Rattle.searchers.specs.declared.rows.Waiting.{Waiting}
 use Rattle.aggregates.specs.Writing.{all_rewritten, result_among, figure_taken}
 use Rattle.aggregates.proofs.Rewriting.{all_twice}
@@ -84,12 +82,12 @@ set_over h (x ∷ os) (suc j) o d = ap (λ r. x ∷ r) (set_over h os j o d)
 
 module _ (figure from : ℕ) where
   pub taken_none : (i : ℕ) (results : List Outcome) → figure_taken figure [] from i results ≡ results
-  taken_none i results = ap (set results figure) (among_none from i (get_or results figure Missing)) ∙ set-get_or results figure Missing
+  taken_none i results = ap (set results figure) (among_none from i (get_or results figure None)) ∙ set-get_or results figure None
 
   taken_both : (os ps : List Outcome) (to : ℕ) → from + length os ≡ to → (i : ℕ) (results : List Outcome) → figure_taken figure ps to i (figure_taken figure os from i results) ≡ figure_taken figure (os ++ ps) from i results
   taken_both os ps to e i results =
-      set_over (result_among ps to i) results figure (result_among os from i (get_or results figure Missing)) Missing
-      ∙ ap (set results figure) (among_both os ps from to i (get_or results figure Missing) e)
+      set_over (result_among ps to i) results figure (result_among os from i (get_or results figure None)) None
+      ∙ ap (set results figure) (among_both os ps from to i (get_or results figure None) e)
 
 -- one turn of the loop over the parts: what is done, and what the rest will give, make the whole
 module _ {F : Type 0} (g : figure.Ghosts F) (f : F) (first : ℕ) (rows : List (List Cell)) (k k' : Carry) (i n end : ℕ) (part : n ≤ end - i) (carry : k' ≡ carry_after g f k first rows i n) where

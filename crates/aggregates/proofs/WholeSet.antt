@@ -1,12 +1,11 @@
 -- The figures of a set, in their four places.
-use Rattle.std.proofs.Common.{◌≡◌, ℕ, zero, suc, ◌+◌, ◌-◌, ◌<◌, ◌≤◌, Bool, true, false, List, [], ◌∷◌, ◌++◌, map, length, take, drop, set, replicate, Some, sym, refl, ap, ◌∙◌, add-one, arith}
+use Rattle.std.proofs.Common.{◌≡◌, ℕ, zero, suc, ◌+◌, ◌-◌, ◌<◌, ◌≤◌, Bool, true, false, List, [], ◌∷◌, ◌++◌, map, length, take, drop, set, replicate, Some, sym, refl, ap, ◌∙◌, add-one, arith, None}
 use Rattle.std.specs.List.{slice_get, AllByRecursion}
-use Rattle.std.proofs.ByRecursion.{All-weaker}
+use Rattle.std.proofs.ByRecursion.{All-weaker, all_from_every}
+use mathlib.Core.Path.{fun_ext}
 use Rattle.std.proofs.lemmas.List.{replicate-append-replicate}
+use Rattle.std.proofs.lemmas.Simd.{splat_is_map}
 use Rattle.std.proofs.lemmas.Bool.{le-ltb, lt-ltb, cond-true, cond-false}
-use Rattle.figures.specs.declared.cells.Cell.{Cell}
-use Rattle.figures.specs.declared.cells.Outcome.{Outcome}
-use Rattle.figures.specs.declared.cells.Outcome.TheVariants.{Missing}
 use Rattle.figures.specs.declared.carry.Carry.{Carry}
 use Rattle.figures.specs.declared.set.FigureSet.{FigureSet}
 use Rattle.figures.specs.declared.set.FigureSet.TheVariants.{One, Two, Three, Four}
@@ -15,9 +14,11 @@ use Rattle.figures.specs.Carries.{fresh}
 use Rattle.figures.specs.Catching.{is_due, KeepsUp}
 use Rattle.figures.specs.Results.{outcome_of}
 use Rattle.figures.specs.Sets.{figures, largest}
+use Rattle.figures.specs.Cells.{Cell, Outcome}
 use Rattle.figures.proofs.Largest.{set_largest}
 use Rattle.aggregates.specs.Figures.{Theory}
 use Rattle.aggregates.specs.Sets.{four, next_carries, next_results, if_due, set_figures}
+use Rattle.aggregates.proofs.FigureByFigure.{at_front}
 use Rattle.aggregates.proofs.OneFigure.{carry_of, carry_on, result_on}
 
 pub set_few : {F : Type 0} (set : FigureSet F) → length (figures set) ≤ 4
@@ -25,6 +26,10 @@ set_few (One f) = omega arith
 set_few (Two f g) = omega arith
 set_few (Three f g h) = omega arith
 set_few (Four f g h j) = omega arith
+
+-- a figure that an iterator gives stands in one of the four places
+pub turn_low : {F : Type 0} (set : FigureSet F) (j : ℕ) (f : F) (left rest : List F) → left ≡ drop j (figures set) → left ≡ f ∷ rest → j < 4
+turn_low set j f left rest at gives = omega (arith, (at_front j (figures set) f rest (sym at ∙ gives)).2, set_few set)
 
 module _ {F X : Type 0} where
   map_same : (v w : F → X) (fs : List F) → AllByRecursion (λ f. v f ≡ w f) fs → map v fs ≡ map w fs
@@ -34,13 +39,9 @@ module _ {F X : Type 0} where
   four_same : (d : X) (v w : F → X) (fs : List F) → AllByRecursion (λ f. v f ≡ w f) fs → four d v fs ≡ four d w fs
   four_same d v w fs h = ap (λ xs. xs ++ replicate (4 - length fs) d) (map_same v w fs h)
 
-  map_constant : (d : X) (fs : List F) → map (λ f. d) fs ≡ replicate (length fs) d
-  map_constant d [] = refl
-  map_constant d (f ∷ fs) = ap (λ xs. d ∷ xs) (map_constant d fs)
-
   four_constant : (d : X) (fs : List F) → length fs ≤ 4 → four d (λ f. d) fs ≡ replicate 4 d
   four_constant d fs few =
-      ap (λ xs. xs ++ replicate (4 - length fs) d) (map_constant d fs)
+      ap (λ xs. xs ++ replicate (4 - length fs) d) (sym (splat_is_map fs (length fs) d refl))
       ∙ replicate-append-replicate (length fs) (4 - length fs) d
       ∙ ap (λ n. replicate n d) (let e : length fs + (4 - length fs) ≡ 4 = omega arith in e)
 
@@ -61,11 +62,6 @@ module _ {F X : Type 0} where
   pub four_more : (d : X) (v : F → X) (fs : List F) (j : ℕ) (f : F) → length fs ≤ 4 → slice_get fs j ≡ Some f → set (four d v (take j fs)) j (v f) ≡ four d v (take (j + 1) fs)
   four_more d v fs j f few e = rw add-one (four_suc d v fs j 4 f few e)
 
--- what holds of each holds of all
-each : {F : Type 0} (P : F → Type 0) → ((f : F) → P f) → (fs : List F) → AllByRecursion P fs
-each P h [] = tt
-each P h (f ∷ fs) = (h f, each P h fs)
-
 module _ {F : Type 0} (g : figure.Ghosts F) (theory : KeepsUp g) where
   module _ (w : ℕ) (xs ys : List (List Cell)) (ended : Bool) (d : ℕ) (kept : d ≤ length xs - w) where
     carries_on : (fs : List F) (rest : List Carry) → AllByRecursion (λ f. g.back f + g.ahead f ≤ w) fs
@@ -85,19 +81,19 @@ module _ {F : Type 0} (g : figure.Ghosts F) (theory : KeepsUp g) where
   pub supplied : (set : FigureSet F) → Theory (set_figures g set)
   supplied set =
       let fs : List F = figures set in
-      let reaches : AllByRecursion (λ f. g.back f + g.ahead f ≤ largest (λ f. g.back f + g.ahead f) (figures set)) (figures set) = (set_largest (λ f. g.back f + g.ahead f) set).covers in
-      let aheads : AllByRecursion (λ f. g.ahead f ≤ largest g.ahead (figures set)) (figures set) = (set_largest g.ahead set).covers in
+      let reaches : AllByRecursion (λ f. g.back f + g.ahead f ≤ largest (λ f. g.back f + g.ahead f) (figures set)) (figures set) = all_from_every _ (figures set) (λ k d l h. (set_largest (λ f. g.back f + g.ahead f) set).covers k d h) in
+      let aheads : AllByRecursion (λ f. g.ahead f ≤ largest g.ahead (figures set)) (figures set) = all_from_every _ (figures set) (λ k d l h. (set_largest g.ahead set).covers k d h) in
       let w : ℕ = largest (λ f. g.back f + g.ahead f) fs in
       let a : ℕ = largest g.ahead fs in
       record {
         state = λ xs. record { rows = length xs; carries = four fresh (carry_of g false xs) fs };
-        starts = ap (λ (ks : List Carry). record { rows = 0; carries = ks }) (four_same fresh g.starts (carry_of g false []) fs (each _ (λ f. (theory.starts f 0).carry) fs));
+        starts = ap (λ (ks : List Carry). record { rows = 0; carries = ks }) (ap (λ (v : F → Carry). four fresh v fs) (fun_ext (λ f. (theory.starts f 0).carry)));
         blanks = λ xs i h.
-            sym (four_constant Missing fs (set_few set))
-            ∙ four_same Missing (λ f. Missing) (if_due g false xs i) fs (each _ (λ f. sym (cond-false (is_due (length xs) false (g.ahead f) i) (outcome_of g f xs i) Missing (le-ltb (i + g.ahead f) (length xs) (omega arith)))) fs);
-        ready = λ xs i h. four_same Missing (if_due g false xs i) (λ f. outcome_of g f xs i) fs (All-weaker _ _ (λ f l. cond-true (is_due (length xs) false (g.ahead f) i) (outcome_of g f xs i) Missing (lt-ltb (i + g.ahead f) (length xs) (omega arith))) fs aheads);
-        lasts = λ xs ys i h. four_same Missing (λ f. outcome_of g f (xs ++ ys) i) (λ f. outcome_of g f xs i) fs (All-weaker _ _ (λ f l. theory.stable f xs ys i (omega arith)) fs aheads);
+            sym (four_constant None fs (set_few set))
+            ∙ ap (λ (v : F → Outcome). four None v fs) (fun_ext (λ f. sym (cond-false (is_due (length xs) false (g.ahead f) i) (outcome_of g f xs i) None (le-ltb (i + g.ahead f) (length xs) (omega arith)))));
+        ready = λ xs i h. four_same None (if_due g false xs i) (λ f. outcome_of g f xs i) fs (All-weaker _ _ (λ f l. cond-true (is_due (length xs) false (g.ahead f) i) (outcome_of g f xs i) None (lt-ltb (i + g.ahead f) (length xs) (omega arith))) fs aheads);
+        lasts = λ xs ys i h. four_same None (λ f. outcome_of g f (xs ++ ys) i) (λ f. outcome_of g f xs i) fs (All-weaker _ _ (λ f l. theory.stable f xs ys i (omega arith)) fs aheads);
         forwards = λ xs ys d h. ap (λ (ks : List Carry). record { rows = length (xs ++ ys); carries = ks }) (carries_on w xs ys false d h fs (replicate (4 - length fs) fresh) reaches);
-        writes = λ xs ys d h i l. results_on w xs ys false d h i l fs (replicate (4 - length fs) fresh) (replicate (4 - length fs) Missing) reaches;
-        ends = λ xs ys d h i l. results_on w xs ys true d h i l fs (replicate (4 - length fs) fresh) (replicate (4 - length fs) Missing) reaches;
+        writes = λ xs ys d h i l. results_on w xs ys false d h i l fs (replicate (4 - length fs) fresh) (replicate (4 - length fs) None) reaches;
+        ends = λ xs ys d h i l. results_on w xs ys true d h i l fs (replicate (4 - length fs) fresh) (replicate (4 - length fs) None) reaches;
       }

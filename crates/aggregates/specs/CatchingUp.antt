@@ -1,6 +1,6 @@
 -- Every held key caught up, on the lists of a run's tables.
+use Rattle.figures.specs.Cells.{Cell}
 use Rattle.std.specs.Prelude.{ℕ, suc, List, [], ◌∷◌, map}
-use Rattle.figures.specs.declared.cells.Cell.{Cell}
 use Rattle.searchers.specs.declared.rows.Waiting.{Waiting}
 use Rattle.searchers.specs.declared.rows.Held.{Held}
 use Rattle.tables.specs.declared.rows.Kept.{Kept}

@@ -1,6 +1,6 @@
 -- What a run needs of a set of figures, and what the theory of one key gives of it. P is what is held for a key, R the results of a row.
+use Rattle.figures.specs.Cells.{Cell}
 use Rattle.std.specs.Prelude.{◌≡◌, ℕ, ◌+◌, ◌-◌, ◌<◌, ◌≤◌, Bool, true, false, List, [], ◌++◌, length, drop}
-use Rattle.figures.specs.declared.cells.Cell.{Cell}
 
 pub record Figures (P R : Type 0) : Type 0 where
   -- the largest reach after, and the largest sum of a figure's two reaches

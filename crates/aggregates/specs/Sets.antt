@@ -1,8 +1,5 @@
 -- What a run needs of a set of figures, from the meaning of each.
-use Rattle.std.specs.Prelude.{ℕ, ◌+◌, ◌-◌, Bool, false, cond, List, [], ◌∷◌, ◌++◌, map, length, replicate, nat_lt, slice_index_or}
-use Rattle.figures.specs.declared.cells.Cell.{Cell}
-use Rattle.figures.specs.declared.cells.Outcome.{Outcome}
-use Rattle.figures.specs.declared.cells.Outcome.TheVariants.{Missing}
+use Rattle.std.specs.Prelude.{ℕ, ◌+◌, ◌-◌, Bool, false, if◌then◌else◌, List, [], ◌∷◌, ◌++◌, map, length, replicate, nat_lt, slice_index_or, None}
 use Rattle.figures.specs.declared.carry.Carry.{Carry}
 use Rattle.figures.specs.declared.set.FigureSet.{FigureSet}
 use Rattle.figures.specs.declared.figure.Figure as figure
@@ -10,6 +7,7 @@ use Rattle.figures.specs.Carries.{fresh}
 use Rattle.figures.specs.Catching.{due, is_due, stretch, carry_after}
 use Rattle.figures.specs.Results.{outcome_of}
 use Rattle.figures.specs.Sets.{figures, largest}
+use Rattle.figures.specs.Cells.{Cell, Outcome}
 use Rattle.aggregates.specs.declared.progress.Progress.{Progress}
 use Rattle.aggregates.specs.Figures.{Figures}
 
@@ -32,7 +30,7 @@ module _ {F : Type 0} (g : figure.Ghosts F) where
     next_carry f k = carry_after g f k (n - length cells) cells (due_from f) (newly_due f)
 
     abbrev pub next_result : F → Carry → ℕ → Outcome → Outcome
-    next_result f k i o = cond (nat_lt i (due_from f)) o (slice_index_or (stretch g f k (n - length cells) cells (due_from f) (newly_due f)) (i - due_from f) o)
+    next_result f k i o = if nat_lt i (due_from f) then o else slice_index_or (stretch g f k (n - length cells) cells (due_from f) (newly_due f)) (i - due_from f) o
 
     -- figure by figure; what stands behind the figures stays
     abbrev pub next_carries : List F → List Carry → List Carry
@@ -48,16 +46,16 @@ module _ {F : Type 0} (g : figure.Ghosts F) where
 
   -- the result of a rank where it is due
   abbrev pub if_due : Bool → List (List Cell) → ℕ → F → Outcome
-  if_due ended xs i f = cond (is_due (length xs) ended (g.ahead f) i) (outcome_of g f xs i) Missing
+  if_due ended xs i f = if is_due (length xs) ended (g.ahead f) i then outcome_of g f xs i else None
 
   abbrev pub set_figures : FigureSet F → Figures Progress (List Outcome)
   set_figures set = record {
     ahead = largest g.ahead (figures set);
     reach = largest (λ f. g.back f + g.ahead f) (figures set);
     start = record { rows = 0; carries = four fresh g.starts (figures set) };
-    blank = replicate 4 Missing;
+    blank = replicate 4 None;
     forward = λ p n ended cells. record { rows = n; carries = next_carries p.rows n ended cells (figures set) p.carries };
     write = λ p n ended cells i os. next_results p.rows n ended cells (figures set) p.carries i os;
-    result = λ xs i. four Missing (λ f. outcome_of g f xs i) (figures set);
-    so_far = λ ended xs i. four Missing (if_due ended xs i) (figures set);
+    result = λ xs i. four None (λ f. outcome_of g f xs i) (figures set);
+    so_far = λ ended xs i. four None (if_due ended xs i) (figures set);
   }

@@ -11,109 +11,91 @@ use figures::carry::Carry;
 use figures::catching::{catch_up, due_rows};
 use figures::cells::{Cell, Outcome};
 use figures::figure::Figure;
+use figures::rows::KeptRows;
 use figures::set::FigureSet;
 use searchers::rows::{Held, Waiting};
 use tables::table::Table;
 
-// A held key that is to be caught up: its place, how many rows it had when it was last caught up and has now, and whether it has ended.
-#[derive(Clone, Copy)]
-pub(crate) struct Step {
-    place: usize,
-    old: u32,
-    rows: u32,
-    ended: bool,
+// The turn of a held key: its place, its entry, and the cells of its kept rows.
+#[derive(Drop)]
+pub(crate) struct Turn<'a, K> {
+    pub(crate) place: usize,
+    pub(crate) entry: Held<K, Progress>,
+    pub(crate) cells: &'a [[Cell; 4]],
 }
 
-// The rank of the first of a key's kept rows.
-fn first_kept(rows: u32, cells: &[[Cell; 4]]) -> u32
-    ensures { result ≡ rows - length cells.now }
-{
-    (rows as usize).saturating_sub(cells.len()) as u32
-}
-
-// One figure: works its results out and writes them, some at a time, and answers its carry.
-fn catch_up_figure<K: Copy, F: Figure>(
-    figure: &F,
-    number: usize,
-    carry: Carry,
-    step: Step,
-    cells: &[[Cell; 4]],
-    waiting: &mut Table<Waiting<K, [Outcome; 4]>, 512>,
-    results: &mut [Outcome; 512],
-) -> Carry
-    requires { number < 4 }
-    ensures carry { result ≡ next_carry F.Figure step.old step.rows step.ended cells.now figure.now carry }
-    ensures waiting { rows waiting.new ≡ all_rewritten step.place (figure_renewed F.Figure step.old step.rows step.ended cells.now number figure.now carry) (rows waiting.old) }
-{
-    let after = figure.after();
-    let first = first_kept(step.rows, cells);
-    let end = due_rows(step.rows, step.ended, after);
-    let mut rank = due_rows(step.old, false, after);
-    let mut next = carry;
-    while rank < end {
-        let count = (end - rank).min(512);
-        next = catch_up(
-            figure,
-            next,
-            cells,
-            first,
-            rank,
-            &mut results[0..count as usize],
-        );
-        write_results(
-            waiting,
-            step.place,
-            number,
-            rank,
-            &results[0..count as usize],
-        );
-        rank += count;
-    }
-    next
-}
-
-// Each figure in turn; answers their carries.
-fn catch_up_figures<K: Copy, F: Figure>(
-    set: &FigureSet<F>,
-    carries: [Carry; 4],
-    step: Step,
-    cells: &[[Cell; 4]],
-    waiting: &mut Table<Waiting<K, [Outcome; 4]>, 512>,
-    results: &mut [Outcome; 512],
-) -> [Carry; 4]
-    ensures carries { result ≡ next_carries F.Figure step.old step.rows step.ended cells.now (figures set.now) carries }
-    ensures waiting { rows waiting.new ≡ all_rewritten step.place (next_results F.Figure step.old step.rows step.ended cells.now (figures set.now) carries) (rows waiting.old) }
-{
-    let mut next = carries;
-    for j in 0..set.len() {
-        if let Some(figure) = set.get(j) {
-            next[j] = catch_up_figure(figure, j, next[j], step, cells, waiting, results);
+impl<'a, K: Copy> Turn<'a, K> {
+    // The key's kept rows, from the rank of the first of them on.
+    fn kept(&self) -> KeptRows<'a>
+        ensures first { result.first ≡ self.now.entry.rows - length self.now.cells.now }
+        ensures rows { result.rows.now ≡ self.now.cells.now }
+    {
+        KeptRows {
+            first: (self.entry.rows as usize).saturating_sub(self.cells.len()) as u32,
+            rows: self.cells,
         }
     }
-    next
-}
 
-// The key at a place, from its entry and the cells of its kept rows; answers its progress.
-pub(crate) fn catch_up_key<K: Copy, F: Figure>(
-    set: &FigureSet<F>,
-    place: usize,
-    entry: Held<K, Progress>,
-    cells: &[[Cell; 4]],
-    waiting: &mut Table<Waiting<K, [Outcome; 4]>, 512>,
-    results: &mut [Outcome; 512],
-) -> Progress
-    ensures progress { result ≡ (set_figures F.Figure set.now).forward entry.progress entry.rows entry.ended cells.now }
-    ensures waiting { rows waiting.new ≡ all_rewritten place ((set_figures F.Figure set.now).write entry.progress entry.rows entry.ended cells.now) (rows waiting.old) }
-{
-    let step = Step {
-        place,
-        old: entry.progress.rows,
-        rows: entry.rows,
-        ended: entry.ended,
-    };
-    let carries = catch_up_figures(set, entry.progress.carries, step, cells, waiting, results);
-    Progress {
-        rows: entry.rows,
-        carries,
+    // One figure: works its results out and writes them, as many at a time as there is room for, and answers its carry.
+    fn catch_up_figure<F: Figure>(
+        &self,
+        figure: &F,
+        number: usize,
+        carry: Carry,
+        waiting: &mut Table<Waiting<K, [Outcome; 4]>, 512>,
+        results: &mut [Outcome; 512],
+    ) -> Carry
+        ensures carry { result ≡ next_carry F.Figure self.now.entry.progress.rows self.now.entry.rows self.now.entry.ended self.now.cells.now figure.now carry }
+        ensures waiting { rows waiting.new ≡ all_rewritten self.now.place (figure_renewed F.Figure self.now.entry.progress.rows self.now.entry.rows self.now.entry.ended self.now.cells.now number figure.now carry) (rows waiting.old) }
+    {
+        let after = figure.after();
+        let kept = self.kept();
+        let end = due_rows(self.entry.rows, self.entry.ended, after);
+        let mut rank = due_rows(self.entry.progress.rows, false, after);
+        let mut next = carry;
+        // Part by part: the last part may be shorter, so that each needs its count, over a range's `step_by` too.
+        while rank < end {
+            let count = (end - rank).min(512);
+            let part = &mut results[..count as usize];
+            next = catch_up(figure, next, &kept, rank, part);
+            write_results(waiting, self.place, number, rank, part);
+            rank += count;
+        }
+        next
+    }
+
+    // Each figure in turn; answers their carries.
+    fn catch_up_figures<F: Figure>(
+        &self,
+        set: &FigureSet<F>,
+        carries: [Carry; 4],
+        waiting: &mut Table<Waiting<K, [Outcome; 4]>, 512>,
+        results: &mut [Outcome; 512],
+    ) -> [Carry; 4]
+        ensures carries { result ≡ next_carries F.Figure self.now.entry.progress.rows self.now.entry.rows self.now.entry.ended self.now.cells.now (figures set.now) carries }
+        ensures waiting { rows waiting.new ≡ all_rewritten self.now.place (next_results F.Figure self.now.entry.progress.rows self.now.entry.rows self.now.entry.ended self.now.cells.now (figures set.now) carries) (rows waiting.old) }
+    {
+        let mut next = carries;
+        for (j, figure) in set.iter().enumerate() {
+            next[j] = self.catch_up_figure(figure, j, next[j], waiting, results);
+        }
+        next
+    }
+
+    // The key caught up; answers its progress.
+    pub(crate) fn catch_up_key<F: Figure>(
+        &self,
+        set: &FigureSet<F>,
+        waiting: &mut Table<Waiting<K, [Outcome; 4]>, 512>,
+        results: &mut [Outcome; 512],
+    ) -> Progress
+        ensures progress { result ≡ (set_figures F.Figure set.now).forward self.now.entry.progress self.now.entry.rows self.now.entry.ended self.now.cells.now }
+        ensures waiting { rows waiting.new ≡ all_rewritten self.now.place ((set_figures F.Figure set.now).write self.now.entry.progress self.now.entry.rows self.now.entry.ended self.now.cells.now) (rows waiting.old) }
+    {
+        let carries = self.catch_up_figures(set, self.entry.progress.carries, waiting, results);
+        Progress {
+            rows: self.entry.rows,
+            carries,
+        }
     }
 }

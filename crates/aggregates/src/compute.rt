@@ -4,9 +4,10 @@ ghost use Rattle.tables.specs.Whole.{lists};
 ghost use Rattle.aggregates.specs.CatchingUp.{caught_up};
 ghost use Rattle.aggregates.specs.Sets.{set_figures};
 
-use crate::catching::catch_up_key;
+use crate::catching::Turn;
 use crate::gathering::gather;
 use crate::progress::Progress;
+use arrayvec::ArrayVec;
 use figures::cells::{Cell, Outcome};
 use figures::figure::Figure;
 use figures::set::FigureSet;
@@ -27,29 +28,21 @@ pub fn compute_aggregates<K: Copy, F: Figure>(
 )
     ensures { lists tables.new ≡ caught_up (set_figures F.Figure set.now) (lists tables.old) }
 {
-    let mut cells = [[Cell::Absent; 4]; 1024];
-    let mut results = [Outcome::Missing; 512];
+    let mut cells: ArrayVec<[Cell; 4], 1024> = ArrayVec::new();
+    let mut results: [Outcome; 512] = [None; 512];
+    // By places: a key's place names its kept and waiting rows, and the entry that stands there is written anew.
     for place in 0..tables.held.len() {
-        let entry = tables.held.at(place);
-        if !is_caught_up(&entry) {
-            let count = gather(&tables.kept, place, &mut cells);
-            let progress = catch_up_key(
-                set,
+        if let Some(entry) = tables.held.get(place).copied()
+            && !is_caught_up(&entry)
+        {
+            gather(&tables.kept, place, &mut cells);
+            let turn = Turn {
                 place,
                 entry,
-                &cells[0..count],
-                &mut tables.waiting,
-                &mut results,
-            );
-            tables.held.put(
-                place,
-                Held {
-                    key: entry.key,
-                    rows: entry.rows,
-                    ended: entry.ended,
-                    progress,
-                },
-            );
+                cells: cells.as_slice(),
+            };
+            let progress = turn.catch_up_key(set, &mut tables.waiting, &mut results);
+            tables.held.put(place, Held { progress, ..entry });
         }
     }
 }

@@ -1,6 +1,5 @@
 // How far the figures have come with a key.
-ghost use Rattle.std.specs.Prelude.{◌≡◌, replicate};
-ghost use Rattle.figures.specs.declared.cells.Outcome.TheVariants.{Missing};
+ghost use Rattle.std.specs.Prelude.{◌≡◌, None, replicate};
 ghost use Rattle.aggregates.specs.Sets.{set_figures};
 
 use figures::carry::Carry;
@@ -19,23 +18,16 @@ pub struct Progress {
 pub fn start_of<F: Figure>(set: &FigureSet<F>) -> Progress
     ensures { result ≡ (set_figures F.Figure set.now).start }
 {
-    let fresh = Carry {
-        sum: 0,
-        present: 0,
-        rows: 0,
-    };
-    let mut carries = [fresh; 4];
-    for j in 0..set.len() {
-        if let Some(figure) = set.get(j) {
-            carries[j] = figure.start();
-        }
+    let mut carries = [Carry::default(); 4];
+    for (j, figure) in set.iter().enumerate() {
+        carries[j] = figure.start();
     }
     Progress { rows: 0, carries }
 }
 
 // The results of a new row.
 pub fn blank() -> [Outcome; 4]
-    ensures { result ≡ replicate 4 Missing }
+    ensures { result ≡ replicate 4 None }
 {
-    [Outcome::Missing; 4]
+    [None; 4]
 }

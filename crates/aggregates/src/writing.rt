@@ -1,26 +1,28 @@
 // Results that are written to the waiting rows of one key.
-ghost use Rattle.std.specs.Prelude.{◌≡◌, ◌<◌};
+ghost use Rattle.std.specs.Prelude.{◌≡◌};
 ghost use Rattle.tables.specs.Rows.{rows};
-ghost use Rattle.aggregates.specs.Writing.{with_result, all_rewritten, figure_taken};
+ghost use Rattle.aggregates.specs.Writing.{rewritten, all_rewritten, figure_taken};
 
 use figures::cells::Outcome;
 use searchers::rows::Waiting;
 use tables::table::Table;
-use tables::table::changes::Change;
 
-// The result of one figure, for one row.
-#[derive(Clone, Copy)]
-pub(crate) struct FigureResult {
+// Gives a row of a place its result of one figure, if it is among some: the first of them has the rank `from`. A row has four places for results.
+fn take_result<K: Copy>(
+    row: &mut Waiting<K, [Outcome; 4]>,
+    place: usize,
     figure: usize,
-    result: Outcome,
-    ghost known: { figure < 4 },
-}
-
-impl<K: Copy> Change<Waiting<K, [Outcome; 4]>> for FigureResult {
-    ghost turns = { λ s w. with_result s.figure s.result w };
-
-    fn change(&self, row: &mut Waiting<K, [Outcome; 4]>) {
-        row.results[self.figure] = self.result;
+    from: u32,
+    results: &[Outcome],
+)
+    ensures { row.new ≡ rewritten place (figure_taken figure results.now from) row.old }
+{
+    if row.place == place
+        && row.rank >= from
+        && figure < row.results.len()
+        && let Some(result) = results.get((row.rank - from) as usize)
+    {
+        row.results[figure] = *result;
     }
 }
 
@@ -32,22 +34,7 @@ pub(crate) fn write_results<K: Copy>(
     from: u32,
     results: &[Outcome],
 )
-    requires { figure < 4 }
     ensures { rows waiting.new ≡ all_rewritten place (figure_taken figure results.now from) (rows waiting.old) }
 {
-    for i in 0..waiting.len() {
-        let row = waiting.get(i);
-        if row.place == place && row.rank >= from {
-            let at = (row.rank - from) as usize;
-            if at < results.len() {
-                waiting.alter(
-                    i,
-                    &FigureResult {
-                        figure,
-                        result: results[at],
-                    },
-                );
-            }
-        }
-    }
+    waiting.for_each_mut(|row| take_result(row, place, figure, from, results));
 }

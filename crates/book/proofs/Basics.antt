@@ -1,9 +1,8 @@
 -- Lists and tests: what the shelf lacks.
 use Rattle.std.proofs.Common.{◌≡◌, suc, ◌+◌, Bool, true, false, cond, List, [], ◌∷◌, ◌++◌, map, length, take, drop, filter, sym, refl, ap, ◌∙◌, subst, inl, inr, arith}
 use Rattle.std.specs.List.{prefix_len, AllByRecursion}
-use Rattle.std.proofs.lemmas.List.{length-take-le, take-append-drop, get_or-take}
-use Rattle.std.proofs.ByRecursion.{All-get_or, All-push, All-weaker}
-use Rattle.std.proofs.lemmas.List.Sums.{prefix_len-le-length, prefix_len-drop_yes}
+use Rattle.std.proofs.ByRecursion.{All-push, All-weaker}
+use Rattle.std.proofs.lemmas.List.Sums.{prefix_len-le-length, prefix_len_passes, prefix_len_stops}
 use Rattle.std.proofs.lemmas.Bool.{cases_Bool, both_ways}
 use Rattle.searchers.specs.Leaving.{LongestFront}
 
@@ -73,17 +72,11 @@ module _ {A : Type 0} where
 
   -- the count is that of the longest front
   pub leading_longest : (p : A → Bool) (xs : List A) → LongestFront (λ x. p x ≡ true) xs (prefix_len p xs)
-  leading_longest p xs =
-      let n = prefix_len p xs in
-      let le = prefix_len-le-length p xs in
-      let len = length-take-le n xs le in
-      record {
-        within = le;
-        front = λ i d l. subst (λ x. p x ≡ true) (get_or-take n xs i d l) (All-get_or (λ x. p x ≡ true) (take n xs) i d (omega (arith, len)) (leading_all p xs));
-        stop = λ d l so.
-            (let split : n ≡ length (take n xs) + prefix_len p (drop n xs) = ap (prefix_len p) (sym (take-append-drop n xs)) ∙ leading_append p (take n xs) (drop n xs) (leading_all p xs) in
-            omega (arith, split, len, prefix_len-drop_yes p xs n d l so));
-      }
+  leading_longest p xs = record {
+    within = prefix_len-le-length p xs;
+    front = λ i d l. prefix_len_passes p xs i d l;
+    stop = λ d l so. both_ways _ (prefix_len_stops p xs d l) so;
+  }
 
 module _ {A B : Type 0} where
   pub leading_map : (p : A → Bool) (q : B → Bool) (g : A → B) (xs : List A) → AllByRecursion (λ x. p x ≡ q (g x)) xs → prefix_len p xs ≡ prefix_len q (map g xs)

@@ -6,8 +6,9 @@ use Rattle.std.proofs.lemmas.Bool.{both_ways, or_right, true≢false}
 use Rattle.std.proofs.lemmas.List.{append-nil, map-append, length-map, take-append-drop, take_all, drop_all}
 use Rattle.std.proofs.ByRecursion.{All-weaker}
 use Rattle.faults.specs.declared.told.Told.{Told}
-use Rattle.faults.specs.Causes.{when, first_of}
+use Rattle.std.specs.Bool.{then_some}
 use Rattle.faults.specs.Numbers.{of_run}
+use Rattle.faults.proofs.Causes.{no_cause, when_none}
 use Rattle.searchers.specs.declared.rows.Row.{Row}
 use Rattle.searchers.specs.Order.{keys_of, first_fall}
 use Rattle.searchers.specs.Ends.{marked}
@@ -28,15 +29,6 @@ use Rattle.book.proofs.Stands.{same_facts, Called, Going, waits_long, going_lawf
 use Rattle.book.proofs.Pushes.{push_going, push_cut, push_uncut}
 
 -- a call that is not refused
-
-none_of : (causes : List (Option Told)) → first_of causes ≡ None → AllByRecursion (λ cause. cause ≡ None) causes
-none_of [] e = tt
-none_of (None ∷ causes) e = (refl, none_of causes e)
-none_of (Some told ∷ causes) e = let z : ◌≡◌ {A = ℕ} 0 1 = cc in absurd (omega arith)
-
-when_none : (b : Bool) (told : Told) → when b told ≡ None → b ≡ false
-when_none true told e = let z : ◌≡◌ {A = ℕ} 0 1 = cc in absurd (omega arith)
-when_none false told e = refl
 
 in_order : (row : Option ℕ) → out_of_order row ≡ None → row ≡ None
 in_order None e = refl
@@ -155,11 +147,11 @@ module _ {K R P : Type 0} (s : Settings K R P) (th : Theory s.figures) (l : Lawf
   runs v b outs latest made = inl (start, record { cut = λ h. absurd (omega arith); uncut = λ _. refl })
   runs v b outs latest (push v0 b0 outs0 latest0 batch places before) =
       push_by (push_refusal s (view_facts v0) batch places) v0 b0 outs0 latest0 batch
-      (λ e. (let none = none_of (push_causes s (view_facts v0) batch places) e in (when_none _ _ none.0, in_order _ none.1.1.0)))
+      (λ e. (let none = no_cause (push_causes s (view_facts v0) batch places) e in (when_none _ _ none.0, in_order _ none.1.1.0)))
       (runs v0 b0 outs0 latest0 before)
   runs v b outs latest (finish v0 b0 outs0 latest0 places before) =
       finish_by (finish_refusal s (view_facts v0) places) v0 b0 outs0 latest0
-      (λ e. when_none _ _ (none_of (when v0.finished (of_run 7 0) ∷ when (ltb places (length v0.tables.waiting)) (of_run 14 0) ∷ []) e).0)
+      (λ e. when_none _ _ (no_cause (then_some v0.finished (of_run 7 0) ∷ then_some (ltb places (length v0.tables.waiting)) (of_run 14 0) ∷ []) e).0)
       (runs v0 b0 outs0 latest0 before)
 
   pub lawful : (v : View K R P) (b : Book K) (outs : List (OutRow K R)) (latest : Latest K) → Reached s v b outs latest → Law s v b outs latest

@@ -204,18 +204,18 @@ module _ {K R P : Type 0} (s : Settings K R P) where
         lifts key h = above_on s.kind l s.mode last r.key key in_order h
 
         own_under : over (Some r.key) r.key ≡ false
-        own_under = same_not_lower s.kind l s.mode r.key r.key (l.equality.itself _)
+        own_under = same_not_lower s.kind l s.mode r.key r.key (l.equality.refl _)
 
         entries_on : AllByRecursion (Counted old last0 (now ++ r ∷ []) (Some r.key)) (admitted_row t r).held
         entries_on = counted_all s.kind.same l.equality (Counted old last0 now last) (Counted old last0 (now ++ r ∷ []) (Some r.key)) s.figures.start r.key
             (λ e h q. record {
-              rows = omega (arith, q.rows, row_more e.key (l.equality.back _ _ h));
+              rows = omega (arith, q.rows, row_more e.key (l.equality.symm _ _ ∙ h));
               progress = q.progress;
               under = lifts e.key q.under;
               some = omega (arith, q.some);
             })
             (λ e h q. record {
-              rows = q.rows ∙ ap length (sym (rows_miss s.kind.same e.key now r (false_from _ _ (l.equality.back r.key e.key) h)));
+              rows = q.rows ∙ ap length (sym (rows_miss s.kind.same e.key now r (false_from _ _ (λ h. l.equality.symm e.key r.key ∙ h) h)));
               progress = q.progress;
               under = lifts e.key q.under;
               some = q.some;
@@ -224,7 +224,7 @@ module _ {K R P : Type 0} (s : Settings K R P) where
             (λ h.
             (let none = m.covers r.key h in_order in
             record {
-              rows = omega (arith, row_more r.key (l.equality.itself _), ap length none);
+              rows = omega (arith, row_more r.key (l.equality.refl _), ap length none);
               progress = λ _. th.starts ∙ ap (λ z. th.state (map (λ x. x.cells) z)) (sym (none_old none));
               under = own_under;
               some = omega arith;
@@ -313,7 +313,7 @@ module _ {K R P : Type 0} (s : Settings K R P) where
                   (record {
                     spot = located_new;
                     results = λ _. th.blanks (cells_of same r.key old) rank (omega (arith, length-map (rows_of same r.key old) (λ (x : Row K). x.cells), old_le r.key, rank_is));
-                    ranks = omega (arith, rank_is, row_more r.key (l.equality.itself _));
+                    ranks = omega (arith, rank_is, row_more r.key (l.equality.refl _));
                   });
               keeps = All-push (λ x. Located (admitted_row t r).held x.row.key x.place) t.kept (record { row = r; place = p })
                   (All-weaker (λ x. Located t.held x.row.key x.place) (λ x. Located (admitted_row t r).held x.row.key x.place) (λ x q. located_on x.row.key x.place q) t.kept m.keeps)

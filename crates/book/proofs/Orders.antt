@@ -1,6 +1,6 @@
 -- The order of keys, one for the three modes: which keys the last accepted one has passed, and that these are the ended ones.
 use Rattle.std.proofs.Common.{◌≡◌, Bool, true, false, not, Some, None, Option, Ordering, Less, Equal, Greater, sym, refl, ap, ◌∙◌}
-use Rattle.keys.specs.Laws.{Equality, Ranking}
+use Rattle.std.specs.Cmp.{IsEquivalence, IsTotalOrder}
 use Rattle.std.specs.Ordering.{is_eq, is_lt, is_ne, ordering_reverse}
 use Rattle.std.proofs.lemmas.Bool.{false≢true, true≢false}
 use Rattle.searchers.specs.declared.modes.Mode.{Mode}
@@ -12,10 +12,10 @@ use Rattle.book.proofs.Basics.{false_from, true_from, same_truth}
 
 -- what a key kind promises
 pub record Lawful {K : Type 0} (k : Kind K) : Type 0 where
-  pub equality : Equality k.same
-  pub ranked : Ranking k.order
-  pub sorted : Ranking k.parts
-  pub ties : (x y : K) → is_eq (k.order x y) ≡ k.same x y
+  pub equality : IsEquivalence k.same
+  pub ranked : IsTotalOrder k.order
+  pub sorted : IsTotalOrder k.parts
+  pub ties : (x y : K) → k.same x y ≡ is_eq (k.order x y)
   pub tied : (x y : K) → k.same x y ≡ true → k.parts x y ≡ Equal
 
 is_less : (o : Ordering) → is_lt o ≡ true → o ≡ Less
@@ -42,29 +42,29 @@ equal_not_less Less e = absurd (false≢true e)
 equal_not_less Equal e = refl
 equal_not_less Greater e = refl
 
-module _ {K : Type 0} (compared : K → K → Ordering) (ranked : Ranking compared) where
+module _ {K : Type 0} (compared : K → K → Ordering) (ranked : IsTotalOrder compared) where
   -- c is below a, and b is not: then c is below b
   below_on : (a b c : K) (o : Ordering) → compared a b ≡ o → is_lt (ordering_reverse o) ≡ false → compared c a ≡ Less → compared c b ≡ Less
   below_on a b c Less e p l = ranked.trans c a b l e
-  below_on a b c Equal e p l = ranked.flip c b ∙ ap ordering_reverse (sym (ranked.alike a b c e)) ∙ sym (ranked.flip c a) ∙ l
+  below_on a b c Equal e p l = ranked.antisymm c b ∙ ap ordering_reverse (sym (ranked.congr a b c e)) ∙ sym (ranked.antisymm c a) ∙ l
   below_on a b c Greater e p l = absurd (true≢false p)
 
   -- not below is transitive
   not_below_on : (a b c : K) → is_lt (compared b a) ≡ false → is_lt (compared c b) ≡ false → is_lt (compared c a) ≡ false
   not_below_on a b c p q =
-      false_from (is_lt (compared c a)) (is_lt (compared c b)) (λ l. ap is_lt (below_on a b c (compared a b) refl (ap is_lt (sym (ranked.flip b a)) ∙ p) (is_less _ l))) q
+      false_from (is_lt (compared c a)) (is_lt (compared c b)) (λ l. ap is_lt (below_on a b c (compared a b) refl (ap is_lt (sym (ranked.antisymm b a)) ∙ p) (is_less _ l))) q
 
   -- of two that are not below, differing is being below
   differs : (x y : K) → is_lt (compared x y) ≡ false → is_ne (compared y x) ≡ is_lt (compared y x)
-  differs x y e = ap is_ne (ranked.flip y x) ∙ not_below (compared x y) e ∙ ap is_lt (sym (ranked.flip y x))
+  differs x y e = ap is_ne (ranked.antisymm y x) ∙ not_below (compared x y) e ∙ ap is_lt (sym (ranked.antisymm y x))
 
-module _ {K : Type 0} (same : K → K → Bool) (equality : Equality same) where
+module _ {K : Type 0} (same : K → K → Bool) (equality : IsEquivalence same) where
   pub same_right : (a b c : K) → same a b ≡ true → same c a ≡ same c b
-  same_right a b c e = same_truth _ _ (λ h. equality.chain c a b h e) (λ h. equality.chain c b a h (equality.back a b e))
+  same_right a b c e = equality.symm c a ∙ equality.congr a b c e ∙ equality.symm b c
 
   -- a differs from c, so c differs from what is the same as a
   pub other : (a b c : K) → same a b ≡ true → same a c ≡ false → same c b ≡ false
-  other a b c e n = false_from (same c b) (same a c) (λ h. equality.chain a b c e (equality.back c b h)) n
+  other a b c e n = false_from (same c b) (same a c) (λ h. equality.congr a b c e ∙ equality.symm b c ∙ h) n
 
 module _ {K : Type 0} (k : Kind K) (mode : Mode) where
   abbrev pub low : K → K → Bool
@@ -81,7 +81,7 @@ module _ {K : Type 0} (k : Kind K) (mode : Mode) where
 
 module _ {K : Type 0} (k : Kind K) (l : Lawful k) where
   pub same_not_lower : (mode : Mode) (a b : K) → k.same a b ≡ true → low k mode a b ≡ false
-  same_not_lower Sorted a b e = equal_not_less (k.order a b) (l.ties a b ∙ e)
+  same_not_lower Sorted a b e = equal_not_less (k.order a b) (sym (l.ties a b) ∙ e)
   same_not_lower PartlySorted a b e = ap is_lt (l.tied a b e)
   same_not_lower Linear a b e = refl
 
@@ -91,7 +91,7 @@ module _ {K : Type 0} (k : Kind K) (l : Lawful k) where
   not_lower_on Linear a b c p q = refl
 
   differing : (last key : K) → not (k.same key last) ≡ is_ne (k.order key last)
-  differing last key = ap not (sym (l.ties key last)) ∙ not_eq (k.order key last)
+  differing last key = ap not (l.ties key last) ∙ not_eq (k.order key last)
 
   -- a key that is not above the last has ended exactly where it is below it
   pub ended_is_gone : (mode : Mode) (last : Option K) (key : K) → above k mode last key ≡ false → ended_at mode k.same k.parts last key ≡ gone k mode last key
@@ -128,4 +128,4 @@ module _ {K : Type 0} (k : Kind K) (l : Lawful k) where
   pub gone_same : (mode : Mode) (last : Option K) (a b : K) → k.same a b ≡ true → gone k mode last a ≡ gone k mode last b
   gone_same mode last a b e = same_truth _ _
       (gone_down mode last b a (same_not_lower mode a b e))
-      (gone_down mode last a b (same_not_lower mode b a (l.equality.back a b e)))
+      (gone_down mode last a b (same_not_lower mode b a (l.equality.symm b a ∙ e)))

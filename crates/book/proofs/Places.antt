@@ -3,7 +3,7 @@ use Rattle.std.proofs.Common.{◌≡◌, ℕ, zero, suc, ◌<◌, ◌≤◌, Boo
 use Rattle.std.specs.List.{AllByRecursion}
 use Rattle.std.proofs.lemmas.Bool.{cases_Bool, cases_lt, eqb-true, eq-eqb}
 use Rattle.std.proofs.ByRecursion.{all_kept_by}
-use Rattle.keys.specs.Laws.{Equality}
+use Rattle.std.specs.Cmp.{IsEquivalence}
 use Rattle.searchers.specs.declared.rows.Row.{Row}
 use Rattle.searchers.specs.declared.rows.Held.{Held}
 use Rattle.searchers.specs.Ends.{marked}
@@ -169,7 +169,7 @@ module _ {K P : Type 0} (same : K → K → Bool) where
       ]
 
 -- by the laws of the equality
-module _ {K : Type 0} (same : K → K → Bool) (equality : Equality same) where
+module _ {K : Type 0} (same : K → K → Bool) (equality : IsEquivalence same) where
   module _ {P : Type 0} where
     pub place_same : (a b : K) → same a b ≡ true → (held : List (Held K P)) → place_in same a held ≡ place_in same b held
     place_same a b h [] = refl
@@ -182,7 +182,7 @@ module _ {K : Type 0} (same : K → K → Bool) (equality : Equality same) where
     place_one a b (x ∷ held) lt e =
         elim (cases_Bool (same x.key a)) [
           | inl ya ↦ elim (cases_Bool (same x.key b)) [
-            | inl yb ↦ equality.chain a x.key b (equality.back _ _ ya) yb
+            | inl yb ↦ equality.congr a x.key b (equality.symm _ _ ∙ ya) ∙ yb
             | inr nb ↦ absurd (let e2 : ◌≡◌ {A = ℕ} 0 (suc (place_in same b held)) = rw (ya, nb) at e in omega arith)
           ]
           | inr na ↦ elim (cases_Bool (same x.key b)) [
@@ -196,11 +196,11 @@ module _ {K : Type 0} (same : K → K → Bool) (equality : Equality same) where
 
     pub eqb_place : (a b : K) (held : List (Held K P)) → Found same b held → eqb (place_in same a held) (place_in same b held) ≡ same a b
     eqb_place a b held lt = same_truth _ _
-        (λ h. equality.back b a (place_one b a held lt (sym (eqb-true _ _ h))))
+        (λ h. equality.symm a b ∙ (place_one b a held lt (sym (eqb-true _ _ h))))
         (λ h. eq-eqb _ _ (place_same a b h held))
 
     pub counted_self : (st : P) (b : K) (held : List (Held K P)) → place_in same b (counted_in same st b held) ≡ place_in same b held
-    counted_self st b [] = ap (λ t. cond t 0 1) (equality.itself b)
+    counted_self st b [] = ap (λ t. cond t 0 1) (equality.refl b)
     counted_self st b (e ∷ held) =
         (elim (same e.key b) as (λ t. same e.key b ≡ t → place_in same b (cond t (one_more e ∷ held) (e ∷ counted_in same st b held)) ≡ cond t 0 (suc (place_in same b held))) [
           | true ↦ λ h. ap (λ t. cond t 0 (suc (place_in same b held))) h
@@ -236,7 +236,7 @@ module _ {K : Type 0} (same : K → K → Bool) (equality : Equality same) where
 
     pub placed : (held : List (Held K P)) → Apart same held → Placed same held 0 held
     placed [] q = tt
-    placed (e ∷ held) q = (ap (λ t. cond t 0 (suc (place_in same e.key held))) (equality.itself e.key), placed_cons same e held 0 held q.0 (placed held q.1))
+    placed (e ∷ held) q = (ap (λ t. cond t 0 (suc (place_in same e.key held))) (equality.refl e.key), placed_cons same e held 0 held q.0 (placed held q.1))
 
   pub rows_same : (a b : K) → same a b ≡ true → (rows : List (Row K)) → rows_of same a rows ≡ rows_of same b rows
   rows_same a b h rows = kept_cong _ _ rows (all_always (λ r. same r.key a ≡ same r.key b) (λ r. same_right same equality a b r.key h) rows)

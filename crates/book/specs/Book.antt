@@ -1,7 +1,7 @@
 -- The book: the accepted rows in order, and whether the run is finished. Everything here is worked out from these alone.
+use Rattle.figures.specs.Cells.{Cell}
 use Rattle.std.specs.Prelude.{ℕ, ◌+◌, ◌-◌, Bool, true, false, not, ◌||◌, List, [], ◌∷◌, ◌++◌, map, length, None, filter, nat_lt}
 use Rattle.std.specs.List.{prefix_len}
-use Rattle.figures.specs.declared.cells.Cell.{Cell}
 use Rattle.searchers.specs.declared.rows.Row.{Row}
 use Rattle.searchers.specs.Ends.{ended_at}
 use Rattle.tables.specs.declared.rows.OutRow.{OutRow}

@@ -9,7 +9,8 @@ use Rattle.searchers.specs.declared.rows.Held.{Held}
 use Rattle.searchers.specs.Order.{keys_of, lower, first_fall}
 use Rattle.searchers.specs.Ends.{ended_at}
 use Rattle.faults.specs.declared.told.Told.{Told}
-use Rattle.faults.specs.Causes.{when, first_of}
+use Rattle.std.specs.Bool.{then_some}
+use Rattle.faults.specs.Causes.{first_of}
 use Rattle.faults.specs.Numbers.{of_run}
 use Rattle.tables.specs.declared.rows.OutRow.{OutRow}
 use Rattle.tables.specs.Lists.{Lists, none, value_at, held_keys, distinct, admit, mark, out_row, let_go}
@@ -21,6 +22,9 @@ pub record Kind (K : Type 0) : Type 0 where
   pub same : K → K → Bool
   pub order : K → K → Ordering
   pub parts : K → K → Ordering
+
+abbrev pub kind_by : {K : Type 0} → (same : K → K → Bool) (order parts : K → K → Ordering) → Kind K
+kind_by same order parts = record { same = same; order = order; parts = parts }
 
 pub record Settings (K R P : Type 0) : Type 0 where
   pub kind : Kind K
@@ -62,20 +66,20 @@ out_of_order (Some row) = Some (of_run 9 row)
 -- that there is no room: for the rows that wait, for the rows that are kept, for the keys, and in the output, where it has so many places
 abbrev pub room_causes : {K : Type 0} → (K → K → Bool) → ℕ → ℕ → List K → List (Row K) → ℕ → List (Option Told)
 room_causes same waiting kept held batch places =
-    when (nat_lt 512 (waiting + length batch)) (of_run 11 0)
-    ∷ when (nat_lt 1024 (kept + length batch)) (of_run 12 0)
-    ∷ when (nat_lt 64 (length (distinct same held batch))) (of_run 13 0)
-    ∷ when (nat_lt places (waiting + length batch)) (of_run 14 0)
+    then_some (nat_lt 512 (waiting + length batch)) (of_run 11 0)
+    ∷ then_some (nat_lt 1024 (kept + length batch)) (of_run 12 0)
+    ∷ then_some (nat_lt 64 (length (distinct same held batch))) (of_run 13 0)
+    ∷ then_some (nat_lt places (waiting + length batch)) (of_run 14 0)
     ∷ []
 
 module _ {K R P : Type 0} (s : Settings K R P) where
   -- the causes against a push in the order in which they are looked for
   abbrev pub push_causes : Facts K → List (Row K) → ℕ → List (Option Told)
   push_causes facts batch places =
-      when facts.finished (of_run 7 0)
-      ∷ when (nat_lt 256 (length batch)) (of_run 8 0)
+      then_some facts.finished (of_run 7 0)
+      ∷ then_some (nat_lt 256 (length batch)) (of_run 8 0)
       ∷ out_of_order (first_fall (lower s.mode s.kind.order s.kind.parts) facts.last 0 (keys_of batch))
-      ∷ when (nat_lt 4294967295 (facts.accepted + length batch)) (of_run 10 0)
+      ∷ then_some (nat_lt 4294967295 (facts.accepted + length batch)) (of_run 10 0)
       ∷ room_causes s.kind.same facts.waiting facts.kept facts.held batch places
 
   abbrev pub push_refusal : Facts K → List (Row K) → ℕ → Option Told
@@ -83,7 +87,7 @@ module _ {K R P : Type 0} (s : Settings K R P) where
 
   -- and against a finish
   abbrev pub finish_refusal : Facts K → ℕ → Option Told
-  finish_refusal facts places = first_of (when facts.finished (of_run 7 0) ∷ when (nat_lt places facts.waiting) (of_run 14 0) ∷ [])
+  finish_refusal facts places = first_of (then_some facts.finished (of_run 7 0) ∷ then_some (nat_lt places facts.waiting) (of_run 14 0) ∷ [])
 
 abbrev pub view_facts : {K R P : Type 0} → View K R P → Facts K
 view_facts v = record {

@@ -4,16 +4,14 @@ use Rattle.keys.specs.declared.berth.Berth.{Berth}
 use Rattle.keys.specs.declared.route.RouteBerth.{RouteBerth}
 use Rattle.keys.specs.Berths.{same_berth, berth_order}
 use Rattle.keys.specs.Routes.{same_route_berth, route_berth_order, route_order}
-use Rattle.figures.specs.declared.cells.Cell.TheVariants.{Absent, Number}
 use Rattle.figures.specs.declared.cells.Column.TheVariants.{C0}
-use Rattle.figures.specs.declared.cells.Outcome.{Outcome}
-use Rattle.figures.specs.declared.cells.Outcome.TheVariants.{Missing, Value}
 use Rattle.figures.specs.declared.letters.Letter.{Letter}
 use Rattle.figures.specs.declared.letters.Letter.TheVariants as letter
 use Rattle.figures.specs.declared.letters.LetterFigure.{LetterFigure}
 use Rattle.figures.specs.declared.set.FigureSet.{FigureSet}
 use Rattle.figures.specs.declared.set.FigureSet.TheVariants.{One}
 use Rattle.figures.specs.Rules.{meaning}
+use Rattle.figures.specs.Cells.{Outcome}
 use Rattle.searchers.specs.declared.modes.Mode.{Mode}
 use Rattle.searchers.specs.declared.modes.Mode.TheVariants.{Sorted, PartlySorted, Linear}
 use Rattle.searchers.specs.declared.rows.Row.{Row}
@@ -43,10 +41,10 @@ berth n = record { 0 = n }
 
 -- a row with one cell, and the same going out with one result
 abbrev pub row_of : {K : Type 0} → K → ℤ → Row K
-row_of key x = record { key = key; cells = Number x ∷ Absent ∷ Absent ∷ Absent ∷ [] }
+row_of key x = record { key = key; cells = Some x ∷ None ∷ None ∷ None ∷ [] }
 
 abbrev pub out_of : {K : Type 0} → K → ℤ → Outcome → OutRow K (List Outcome)
-out_of key x result = record { row = row_of key x; results = result ∷ Missing ∷ Missing ∷ Missing ∷ [] }
+out_of key x result = record { row = row_of key x; results = result ∷ None ∷ None ∷ None ∷ [] }
 
 -- a call that is accepted and puts out so many rows
 pub record Puts {K : Type 0} (a : After K (List Outcome) Progress) (n : ℕ) : Type 0 where
@@ -90,11 +88,11 @@ counted n = record { finished = false; last = None; accepted = n; waiting = 0; k
 
 pub record Worked : Type 0 where
   -- Five rows of two berths: three leave, two wait, and each berth keeps its last two rows. Finish puts out the rest.
-  pub first : PutsOut after_five (out_of (berth 7) (pos 10) (Value (pos 30)) ∷ out_of (berth 8) (pos 5) (Value (pos 11)) ∷ out_of (berth 7) (pos 20) (Value (pos 60)) ∷ [])
+  pub first : PutsOut after_five (out_of (berth 7) (pos 10) (Some (pos 30)) ∷ out_of (berth 8) (pos 5) (Some (pos 11)) ∷ out_of (berth 7) (pos 20) (Some (pos 60)) ∷ [])
   pub wait : length after_five.view.tables.waiting ≡ 2
   pub sevens : rows_of same_berth (berth 7) (kept_rows after_five.view) ≡ row_of (berth 7) (pos 20) ∷ row_of (berth 7) (pos 30) ∷ []
   pub eights : rows_of same_berth (berth 8) (kept_rows after_five.view) ≡ row_of (berth 8) (pos 5) ∷ row_of (berth 8) (pos 6) ∷ []
-  pub rest : PutsOut (finished_by (run_of berths Linear sums) after_five.view 512) (out_of (berth 8) (pos 6) (Value (pos 11)) ∷ out_of (berth 7) (pos 30) (Value (pos 50)) ∷ [])
+  pub rest : PutsOut (finished_by (run_of berths Linear sums) after_five.view 512) (out_of (berth 8) (pos 6) (Some (pos 11)) ∷ out_of (berth 7) (pos 30) (Some (pos 50)) ∷ [])
   -- No row goes past one that is not settled.
   pub none_past : Puts (pushed_new Linear sums (calls (8 ∷ 7 ∷ 7 ∷ []))) 0
   -- In a sorted run the first key has ended, in a linear one not.
@@ -105,13 +103,13 @@ pub record Worked : Type 0 where
   pub by_key : (pushed (run_of routes Sorted sums) fresh four_routes 512).fault ≡ Some (of_run 9 2)
   -- The mean of -3 and -4 is -3.
   pub mean : PutsOut (pushed_new Linear (one letter.Mean 1 0) (row_of (berth 1) (negsuc 2) ∷ row_of (berth 1) (negsuc 3) ∷ []))
-      (out_of (berth 1) (negsuc 2) (Value (negsuc 2)) ∷ out_of (berth 1) (negsuc 3) (Value (negsuc 2)) ∷ [])
+      (out_of (berth 1) (negsuc 2) (Some (negsuc 2)) ∷ out_of (berth 1) (negsuc 3) (Some (negsuc 2)) ∷ [])
   -- The cell two rows earlier is missing at rank 1, and rank 0's at rank 2.
   pub earlier : PutsOut (pushed_new Linear (one letter.Earlier 2 0) three)
-      (out_of (berth 1) (pos 10) Missing ∷ out_of (berth 1) (pos 20) Missing ∷ out_of (berth 1) (pos 30) (Value (pos 10)) ∷ [])
+      (out_of (berth 1) (pos 10) None ∷ out_of (berth 1) (pos 20) None ∷ out_of (berth 1) (pos 30) (Some (pos 10)) ∷ [])
   -- The cell one row later is missing at an ended key's last row.
-  pub later : PutsOut (pushed_new Linear (one letter.Later 0 1) three) (out_of (berth 1) (pos 10) (Value (pos 20)) ∷ out_of (berth 1) (pos 20) (Value (pos 30)) ∷ [])
-  pub last_later : PutsOut (finished_by (run_of berths Linear (one letter.Later 0 1)) (pushed_new Linear (one letter.Later 0 1) three).view 512) (out_of (berth 1) (pos 30) Missing ∷ [])
+  pub later : PutsOut (pushed_new Linear (one letter.Later 0 1) three) (out_of (berth 1) (pos 10) (Some (pos 20)) ∷ out_of (berth 1) (pos 20) (Some (pos 30)) ∷ [])
+  pub last_later : PutsOut (finished_by (run_of berths Linear (one letter.Later 0 1)) (pushed_new Linear (one letter.Later 0 1) three).view 512) (out_of (berth 1) (pos 30) None ∷ [])
   -- An empty batch puts out none, on a new run and where rows wait.
   pub empty : Puts (pushed_new Linear sums []) 0
   pub empty_later : Puts (pushed (run_of berths Linear sums) after_five.view [] 512) 0

@@ -1,5 +1,5 @@
 -- The law: what holds of a run before the first call and after each one. v is what the run holds, b its book, outs the rows out, in order, and latest tells of the latest call.
-use Rattle.std.specs.Prelude.{◌≡◌, ℕ, ◌+◌, ◌<◌, min, true, false, cond, List, [], ◌++◌, map, length, take, drop, None}
+use Rattle.std.specs.Prelude.{◌≡◌, ℕ, ◌+◌, ◌<◌, min, true, false, if◌then◌else◌, List, [], ◌++◌, map, length, take, drop, None}
 use Rattle.figures.specs.Catching.{last}
 use Rattle.searchers.specs.declared.rows.Row.{Row}
 use Rattle.searchers.specs.declared.rows.Waiting.{Waiting}
@@ -45,7 +45,7 @@ module _ {K R P : Type 0} (s : Settings K R P) where
     -- After a call that put rows out, a key that has not ended keeps exactly the last min(n, W) of its n rows, and no row of an ended key is kept.
     pub cut : 0 < latest.put → (key : K)
         → rows_of s.kind.same key (kept_rows v)
-        ≡ cond (ended s b key) [] (last (min (length (rows_of s.kind.same key b.rows)) s.figures.reach) (rows_of s.kind.same key b.rows))
+        ≡ (if ended s b key then [] else last (min (length (rows_of s.kind.same key b.rows)) s.figures.reach) (rows_of s.kind.same key b.rows))
     -- After one that put none out, unless it finished the run, the rows kept are those before it and then those that it brought.
     pub uncut : latest.put ≡ 0 → b.finished ≡ false → kept_rows v ≡ latest.before ++ latest.came
     -- The next call is refused exactly for the first cause that the book knows of.

@@ -3,8 +3,9 @@
 
 #[cfg(test)]
 mod tests {
+    use itoa::Integer;
     use raw_bytes::numbers::{i32_at, u8_at, u16_at, u32_at};
-    use raw_bytes::writer::{put, put_number, put_signed, put_text, put_u16};
+    use raw_bytes::writer::Writer;
     use std::process::Abort;
 
     // A byte that no text here has: what it marks was not written.
@@ -12,30 +13,24 @@ mod tests {
 
     // Whether the bytes are the text from place 3 on, and marks elsewhere.
     fn holds(out: &[u8; 32], end: usize, text: &[u8]) -> bool {
-        let mut i = 0;
-        for byte in out {
-            let wanted = if i >= 3 && i < end && i - 3 < text.len() {
-                text[i - 3]
-            } else {
-                BLANK
-            };
-            if *byte != wanted {
-                return false;
-            }
-            i = i.saturating_add(1);
-        }
-        end == text.len().saturating_add(3)
+        let Some((written, rest)) = out.split_at_checked(end) else {
+            return false;
+        };
+        written.strip_prefix(b"###") == Some(text) && rest.iter().all(|byte| *byte == BLANK)
     }
 
-    fn number(rt: &impl Abort, n: u64, text: &[u8]) {
-        let mut out = [BLANK; 32];
-        let end = put_number(&mut out, 3, n);
-        assert!(rt; holds(&out, end, text));
+    // Lets a writer write from a place on, and answers the place that it has come to.
+    fn written<F: FnOnce(&mut Writer<'_>)>(out: &mut [u8], at: usize, write: F) -> usize
+        requires { F.IsAlwaysCallable write }
+    {
+        let mut writer = Writer { out, at };
+        write(&mut writer);
+        writer.at
     }
 
-    fn signed(rt: &impl Abort, n: i64, text: &[u8]) {
+    fn number<I: Integer + Drop>(rt: &impl Abort, n: I, text: &[u8]) {
         let mut out = [BLANK; 32];
-        let end = put_signed(&mut out, 3, n);
+        let end = written(&mut out, 3, |writer| writer.put_number(n));
         assert!(rt; holds(&out, end, text));
     }
 
@@ -76,56 +71,71 @@ mod tests {
 
     #[test]
     fn writes_numbers(rt: HostRuntime) {
-        number(&rt, 0, b"0");
-        number(&rt, 9, b"9");
-        number(&rt, 10, b"10");
-        number(&rt, 1000, b"1000");
-        number(&rt, 65535, b"65535");
-        number(&rt, 4294967295, b"4294967295");
-        number(&rt, 18446744073709551615, b"18446744073709551615");
+        number(&rt, 0u64, b"0");
+        number(&rt, 9u64, b"9");
+        number(&rt, 10u64, b"10");
+        number(&rt, 1000u64, b"1000");
+        number(&rt, 65535u64, b"65535");
+        number(&rt, 4294967295u64, b"4294967295");
+        number(&rt, 18446744073709551615u64, b"18446744073709551615");
     }
 
     #[test]
     fn writes_signed_numbers(rt: HostRuntime) {
-        signed(&rt, 0, b"0");
-        signed(&rt, -1, b"-1");
-        signed(&rt, -10, b"-10");
-        signed(&rt, 2147483647, b"2147483647");
-        signed(&rt, -2147483648, b"-2147483648");
-        signed(&rt, 9223372036854775807, b"9223372036854775807");
-        signed(&rt, -9223372036854775808, b"-9223372036854775808");
+        number(&rt, 0i64, b"0");
+        number(&rt, -1i64, b"-1");
+        number(&rt, -10i64, b"-10");
+        number(&rt, 2147483647i64, b"2147483647");
+        number(&rt, -2147483648i64, b"-2147483648");
+        number(&rt, 9223372036854775807i64, b"9223372036854775807");
+        number(&rt, -9223372036854775808i64, b"-9223372036854775808");
     }
 
     #[test]
     fn writes_two_bytes(rt: HostRuntime) {
         let mut out = [BLANK; 32];
-        let end = put_u16(&mut out, 3, 0x1234);
+        let end = written(&mut out, 3, |writer| writer.put_u16(0x1234));
         assert!(rt; holds(&out, end, b"\x34\x12"));
         let mut most = [BLANK; 32];
-        let end = put_u16(&mut most, 3, 65535);
+        let end = written(&mut most, 3, |writer| writer.put_u16(65535));
         assert!(rt; holds(&most, end, b"\xff\xff"));
     }
 
     #[test]
     fn writes_nothing_past_the_end_and_counts_on(rt: HostRuntime) {
         let mut out = [BLANK; 4];
-        assert_eq!(rt; put_number(&mut out, 1, 12345), 6);
+        assert_eq!(rt;
+            written(&mut out, 1, |writer| writer.put_number(12345u64)),
+            6
+        );
         assert!(rt; out == *b"#123");
-        assert_eq!(rt; put_text(&mut out, 2, b"xyz"), 5);
+        assert_eq!(rt; written(&mut out, 2, |writer| writer.put_text(b"xyz")), 5);
         assert!(rt; out == *b"#1xy");
-        assert_eq!(rt; put(&mut out, 4, b'z'), 5);
-        assert_eq!(rt; put_text(&mut out, 9, b"far away"), 17);
-        assert_eq!(rt; put_text(&mut out, 0, b""), 0);
+        assert_eq!(rt; written(&mut out, 4, |writer| writer.put(b'z')), 5);
+        assert_eq!(rt;
+            written(&mut out, 9, |writer| writer.put_text(b"far away")),
+            17
+        );
+        assert_eq!(rt; written(&mut out, 0, |writer| writer.put_text(b"")), 0);
         assert!(rt; out == *b"#1xy");
         let mut none = [0u8; 0];
-        assert_eq!(rt; put_signed(&mut none, 0, -120), 4);
+        assert_eq!(rt;
+            written(&mut none, 0, |writer| writer.put_number(-120i64)),
+            4
+        );
     }
 
     #[test]
     fn places_stop_at_the_largest(rt: HostRuntime) {
         let mut out = [BLANK; 2];
-        assert_eq!(rt; put_text(&mut out, usize::MAX - 1, b"abc"), usize::MAX);
-        assert_eq!(rt; put(&mut out, usize::MAX, b'a'), usize::MAX);
+        assert_eq!(rt;
+            written(&mut out, usize::MAX - 1, |writer| writer.put_text(b"abc")),
+            usize::MAX
+        );
+        assert_eq!(rt;
+            written(&mut out, usize::MAX, |writer| writer.put(b'a')),
+            usize::MAX
+        );
         assert!(rt; out == *b"##");
     }
 }

@@ -1,4 +1,7 @@
 pub mod Letters
+pub mod Spelling
+pub mod Kept
 pub mod Signs
+pub mod Same
 pub mod ReadBack
 pub mod Tied

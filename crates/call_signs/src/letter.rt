@@ -1,9 +1,9 @@
 // The letters of call signs: A to Z, 0 to 9 and the blank.
-ghost use Rattle.std.specs.Prelude.{◌≡◌};
-ghost use Rattle.call_signs.specs.Letters.{code, letter_of};
+ghost use Rattle.std.specs.Prelude.{◌≡◌, MatchResult, IsFalse};
+ghost use Rattle.call_signs.specs.Letters.{code, is_letter};
 
 // A letter of a call sign. Its number is its byte.
-#[derive(Clone, Copy)]
+#[derive(Clone, Copy, Debug, PartialEq, Eq, PartialOrd, Ord)]
 pub enum Letter {
     Blank = 32,
     N0 = 48,
@@ -44,57 +44,70 @@ pub enum Letter {
     Z = 90,
 }
 
-impl Letter {
-    // The letter's byte.
-    pub fn byte(self) -> u8
-        ensures { result ≡ code self }
-    {
-        self as u8
-    }
+// The byte is no letter's.
+#[derive(Clone, Copy, Debug, PartialEq, Eq)]
+pub struct NoLetter;
 
-    // The letter with this byte, if there is one.
-    pub fn read(b: u8) -> Option<Letter>
-        ensures { result ≡ letter_of b }
-    {
-        match b {
-            b' ' => Some(Letter::Blank),
-            b'0' => Some(Letter::N0),
-            b'1' => Some(Letter::N1),
-            b'2' => Some(Letter::N2),
-            b'3' => Some(Letter::N3),
-            b'4' => Some(Letter::N4),
-            b'5' => Some(Letter::N5),
-            b'6' => Some(Letter::N6),
-            b'7' => Some(Letter::N7),
-            b'8' => Some(Letter::N8),
-            b'9' => Some(Letter::N9),
-            b'A' => Some(Letter::A),
-            b'B' => Some(Letter::B),
-            b'C' => Some(Letter::C),
-            b'D' => Some(Letter::D),
-            b'E' => Some(Letter::E),
-            b'F' => Some(Letter::F),
-            b'G' => Some(Letter::G),
-            b'H' => Some(Letter::H),
-            b'I' => Some(Letter::I),
-            b'J' => Some(Letter::J),
-            b'K' => Some(Letter::K),
-            b'L' => Some(Letter::L),
-            b'M' => Some(Letter::M),
-            b'N' => Some(Letter::N),
-            b'O' => Some(Letter::O),
-            b'P' => Some(Letter::P),
-            b'Q' => Some(Letter::Q),
-            b'R' => Some(Letter::R),
-            b'S' => Some(Letter::S),
-            b'T' => Some(Letter::T),
-            b'U' => Some(Letter::U),
-            b'V' => Some(Letter::V),
-            b'W' => Some(Letter::W),
-            b'X' => Some(Letter::X),
-            b'Y' => Some(Letter::Y),
-            b'Z' => Some(Letter::Z),
-            _ => None,
+impl From<Letter> for u8 {
+    ghost from_gives = { λ letter byte. byte ≡ code letter };
+
+    fn from(letter: Letter) -> u8 {
+        letter as u8
+    }
+}
+
+impl TryFrom<u8> for Letter {
+    type Error = NoLetter;
+
+    ghost try_from_gives = { λ byte read. MatchResult read (λ letter. code letter ≡ byte) (λ _. IsFalse (is_letter byte)) };
+
+    fn try_from(byte: u8) -> Result<Letter, NoLetter> {
+        match byte {
+            b' ' => Ok(Letter::Blank),
+            b'0' => Ok(Letter::N0),
+            b'1' => Ok(Letter::N1),
+            b'2' => Ok(Letter::N2),
+            b'3' => Ok(Letter::N3),
+            b'4' => Ok(Letter::N4),
+            b'5' => Ok(Letter::N5),
+            b'6' => Ok(Letter::N6),
+            b'7' => Ok(Letter::N7),
+            b'8' => Ok(Letter::N8),
+            b'9' => Ok(Letter::N9),
+            b'A' => Ok(Letter::A),
+            b'B' => Ok(Letter::B),
+            b'C' => Ok(Letter::C),
+            b'D' => Ok(Letter::D),
+            b'E' => Ok(Letter::E),
+            b'F' => Ok(Letter::F),
+            b'G' => Ok(Letter::G),
+            b'H' => Ok(Letter::H),
+            b'I' => Ok(Letter::I),
+            b'J' => Ok(Letter::J),
+            b'K' => Ok(Letter::K),
+            b'L' => Ok(Letter::L),
+            b'M' => Ok(Letter::M),
+            b'N' => Ok(Letter::N),
+            b'O' => Ok(Letter::O),
+            b'P' => Ok(Letter::P),
+            b'Q' => Ok(Letter::Q),
+            b'R' => Ok(Letter::R),
+            b'S' => Ok(Letter::S),
+            b'T' => Ok(Letter::T),
+            b'U' => Ok(Letter::U),
+            b'V' => Ok(Letter::V),
+            b'W' => Ok(Letter::W),
+            b'X' => Ok(Letter::X),
+            b'Y' => Ok(Letter::Y),
+            b'Z' => Ok(Letter::Z),
+            _ => Err(NoLetter),
         }
     }
+}
+
+// Whether the byte is a letter's.
+pub(crate) fn is_letter(byte: u8) -> bool
+    ensures { result ≡ is_letter byte }
+{
+    matches!(byte, b' ' | b'0'..=b'9' | b'A'..=b'Z')
 }

@@ -1,160 +1,135 @@
 // Call signs: one to eight letters.
-ghost use Rattle.std.specs.Prelude.{◌≡◌, length};
-ghost use Rattle.std.proofs.Common.{ap, ◌∙◌, rules};
-ghost use Rattle.call_signs.specs.Signs.{sign_bytes, compared_bytes, padded, added, sign_of, zeros, same_sign, sign_order, sign_hash, underscored, written_sign, sign_from, shown_sign};
-ghost use Rattle.std.specs.Cmp.{nat_eq_equiv, nat_cmp_total};
-ghost use Rattle.std.specs.Cmp.Lexicographic.{lists_equiv, bytes_decides, lists_total};
-ghost use Rattle.keys.specs.Pulled.{pulled_equality, pulled_ranking, tie_is_equal};
+ghost use Rattle.std.specs.Prelude.{◌≡◌, ◌≤◌, [], ◌∷◌, length, take, MatchResult, IsTrue, IsFalse, refl};
+ghost use Rattle.std.specs.List.{list_all};
+ghost use Rattle.std.specs.Result.{result_ok};
+ghost use Rattle.std.specs.Ordering.{as_partial_cmp};
+ghost use Rattle.std.specs.Cmp.{on_equiv, on_total, partial_equiv_from_equiv, po};
+ghost use Rattle.std.specs.Cmp.Lexicographic.{nat_list_eq_equiv, nat_list_cmp_total, bytes_decides};
+ghost use Rattle.std.proofs.Common.{ap, rules};
 ghost use Rattle.raw_bytes.specs.Numbers.{little_endian};
-ghost use Rattle.call_signs.specs.ReadBack.{sign_again, sign_only_written};
-ghost use Rattle.call_signs.specs.Tied.{signs_tied};
+ghost use Rattle.call_signs.specs.Letters.{code, is_letter};
+ghost use Rattle.call_signs.specs.Spelling.{is_sign, padded, zeros, underscored};
 
-use crate::letter::Letter;
+use crate::letter::{Letter, is_letter};
 use keys::key::{JournalKey, Key, OrderedKey};
-use raw_bytes::writer::{put, put_text};
+use raw_bytes::writer::Writer;
 use std::cmp::Ordering;
 
-// A call sign: a case for each length, so that no other call sign exists.
-#[derive(Clone, Copy)]
-pub enum CallSign {
-    One(Letter),
-    Two(Letter, Letter),
-    Three(Letter, Letter, Letter),
-    Four(Letter, Letter, Letter, Letter),
-    Five(Letter, Letter, Letter, Letter, Letter),
-    Six(Letter, Letter, Letter, Letter, Letter, Letter),
-    Seven(Letter, Letter, Letter, Letter, Letter, Letter, Letter),
-    Eight(Letter, Letter, Letter, Letter, Letter, Letter, Letter, Letter),
+// A call sign: the bytes of its letters, with zeros behind them, and how many they are. No other
+// bytes make one. Its memory is fixed, since keys are copied and the libraries have no heap.
+#[derive(Clone, Copy, Debug)]
+pub struct CallSign {
+    bytes: [u8; 8],
+    len: usize,
+    ghost letters: { IsTrue (is_sign (take len bytes)) },
+    ghost blank: { bytes ≡ padded (take len bytes) },
+    ghost few: { len ≤ 8 },
 }
 
-// Up to eight bytes, with zeros after them, and how many they are.
-#[derive(Clone, Copy)]
-pub struct Spelling {
-    pub bytes: [u8; 8],
-    pub len: usize,
+// The bytes are not one to eight letters.
+#[derive(Clone, Copy, Debug, PartialEq, Eq)]
+pub struct NoSign;
+
+// The sign of one letter.
+impl From<Letter> for CallSign {
+    ghost use Rattle.call_signs.specs.Signs.{sign_bytes};
+
+    ghost from_gives = { λ letter sign. sign_bytes sign ≡ code letter ∷ [] };
+
+    fn from(letter: Letter) -> CallSign {
+        CallSign {
+            bytes: with_zeros(&[u8::from(letter)]),
+            len: 1,
+        }
+    }
+}
+
+impl TryFrom<&[u8]> for CallSign {
+    type Error = NoSign;
+
+    ghost use Rattle.call_signs.specs.Signs.{sign_bytes, sign_of};
+
+    ghost try_from_gives = { λ bytes read. (result_ok read ≡ sign_of bytes.now) × MatchResult read (λ sign. sign_bytes sign ≡ bytes.now) (λ _. IsFalse (is_sign bytes.now)) };
+
+    fn try_from(bytes: &[u8]) -> Result<CallSign, NoSign> {
+        if !spells_sign(bytes) {
+            return Err(NoSign);
+        }
+        Ok(CallSign {
+            bytes: with_zeros(bytes),
+            len: bytes.len(),
+        })
+    }
 }
 
 impl CallSign {
+    ghost use Rattle.call_signs.specs.Signs.{sign_bytes, compared_bytes, added};
+
     // The sign with one letter more, unless it has eight.
-    pub fn add(self, letter: Letter) -> Option<CallSign>
+    pub fn add(mut self, letter: Letter) -> Option<CallSign>
         ensures { result ≡ added self letter }
     {
-        match self {
-            CallSign::One(a) => Some(CallSign::Two(a, letter)),
-            CallSign::Two(a, b) => Some(CallSign::Three(a, b, letter)),
-            CallSign::Three(a, b, c) => Some(CallSign::Four(a, b, c, letter)),
-            CallSign::Four(a, b, c, d) => Some(CallSign::Five(a, b, c, d, letter)),
-            CallSign::Five(a, b, c, d, e) => Some(CallSign::Six(a, b, c, d, e, letter)),
-            CallSign::Six(a, b, c, d, e, f) => Some(CallSign::Seven(a, b, c, d, e, f, letter)),
-            CallSign::Seven(a, b, c, d, e, f, g) => Some(CallSign::Eight(
-                a, b, c, d, e, f, g, letter,
-            )),
-            CallSign::Eight(..) => None,
-        }
-    }
-
-    // The sign with these bytes, if they are one to eight letters.
-    pub fn from_bytes(bytes: &[u8]) -> Option<CallSign>
-        ensures { result ≡ sign_of bytes.now }
-    {
-        if bytes.len() == 0 {
+        if self.len == 8 {
             return None;
         }
-        let mut sign = CallSign::One(Letter::read(bytes[0])?);
-        let rest = &bytes[1..bytes.len()];
-        for byte in rest {
-            sign = sign.add(Letter::read(*byte)?)?;
-        }
-        Some(sign)
+        self.bytes[self.len] = u8::from(letter);
+        self.len += 1;
+        Some(self)
     }
 
     // The sign's own bytes.
-    pub fn spelled(self) -> Spelling
-        ensures bytes { result.bytes ≡ padded (sign_bytes self) }
-        ensures len { result.len ≡ length (sign_bytes self) }
+    pub fn spelled(&self) -> &[u8]
+        ensures { result.now ≡ sign_bytes self.now }
     {
-        match self {
-            CallSign::One(a) => Spelling {
-                bytes: [a.byte(), 0, 0, 0, 0, 0, 0, 0],
-                len: 1,
-            },
-            CallSign::Two(a, b) => Spelling {
-                bytes: [a.byte(), b.byte(), 0, 0, 0, 0, 0, 0],
-                len: 2,
-            },
-            CallSign::Three(a, b, c) => Spelling {
-                bytes: [a.byte(), b.byte(), c.byte(), 0, 0, 0, 0, 0],
-                len: 3,
-            },
-            CallSign::Four(a, b, c, d) => Spelling {
-                bytes: [a.byte(), b.byte(), c.byte(), d.byte(), 0, 0, 0, 0],
-                len: 4,
-            },
-            CallSign::Five(a, b, c, d, e) => Spelling {
-                bytes: [a.byte(), b.byte(), c.byte(), d.byte(), e.byte(), 0, 0, 0],
-                len: 5,
-            },
-            CallSign::Six(a, b, c, d, e, f) => Spelling {
-                bytes: [
-                    a.byte(),
-                    b.byte(),
-                    c.byte(),
-                    d.byte(),
-                    e.byte(),
-                    f.byte(),
-                    0,
-                    0,
-                ],
-                len: 6,
-            },
-            CallSign::Seven(a, b, c, d, e, f, g) => Spelling {
-                bytes: [
-                    a.byte(),
-                    b.byte(),
-                    c.byte(),
-                    d.byte(),
-                    e.byte(),
-                    f.byte(),
-                    g.byte(),
-                    0,
-                ],
-                len: 7,
-            },
-            CallSign::Eight(a, b, c, d, e, f, g, h) => Spelling {
-                bytes: [
-                    a.byte(),
-                    b.byte(),
-                    c.byte(),
-                    d.byte(),
-                    e.byte(),
-                    f.byte(),
-                    g.byte(),
-                    h.byte(),
-                ],
-                len: 8,
-            },
-        }
+        &self.bytes[..self.len]
     }
 
     // The bytes that equality, hash and both comparisons look at: all of the sign's own.
-    pub fn compared(self) -> Spelling
-        ensures bytes { result.bytes ≡ padded (compared_bytes self) }
-        ensures len { result.len ≡ length (compared_bytes self) }
+    pub fn compared(&self) -> &[u8]
+        ensures { result.now ≡ compared_bytes self.now }
     {
         self.spelled()
     }
+
+    // The compared bytes, with zeros behind them.
+    pub fn padded(&self) -> [u8; 8]
+        ensures { result ≡ padded (compared_bytes self.now) }
+    {
+        with_zeros(self.compared())
+    }
+}
+
+// Whether the bytes are one to eight letters.
+fn spells_sign(bytes: &[u8]) -> bool
+    ensures { result ≡ is_sign bytes.now }
+{
+    match bytes.len() {
+        1..=8 => all_letters(bytes),
+        _ => false,
+    }
+}
+
+fn all_letters(bytes: &[u8]) -> bool
+    ensures { result ≡ list_all is_letter bytes.now }
+{
+    bytes.iter().all(|byte| is_letter(*byte))
+}
+
+// Up to eight bytes, with zeros behind them.
+fn with_zeros(bytes: &[u8]) -> [u8; 8]
+    requires { length bytes.now ≤ 8 }
+    ensures { result ≡ padded bytes.now }
+{
+    let mut eight = [0; 8];
+    eight[..bytes.len()].copy_from_slice(bytes);
+    eight
 }
 
 // Whether each byte is 0.
 fn all_zero(bytes: &[u8]) -> bool
     ensures { result ≡ zeros bytes.now }
 {
-    for byte in bytes {
-        if *byte != 0 {
-            return false;
-        }
-    }
-    true
+    bytes.iter().all(|byte| *byte == 0)
 }
 
 // The byte that a letter's byte is printed as: `_` for a blank.
@@ -164,8 +139,58 @@ fn printed(byte: u8) -> u8
     if byte == b' ' { b'_' } else { byte }
 }
 
+// No derives: `compared` alone decides, which may come to look at less than all bytes.
+impl PartialEq for CallSign {
+    ghost use Rattle.call_signs.specs.Signs.{compared_bytes, same_sign};
+
+    ghost eq = { same_sign };
+
+    ghost laws = { partial_equiv_from_equiv (on_equiv compared_bytes nat_list_eq_equiv) };
+
+    fn eq(&self, other: &Self) -> bool {
+        self.compared() == other.compared()
+    }
+}
+
+impl Eq for CallSign {
+    ghost use Rattle.call_signs.specs.Signs.{compared_bytes};
+
+    ghost laws = { on_equiv compared_bytes nat_list_eq_equiv };
+}
+
+impl PartialOrd for CallSign {
+    ghost use Rattle.call_signs.specs.Signs.{compared_bytes, sign_order};
+    ghost use Rattle.call_signs.specs.Tied.{signs_tied};
+
+    ghost partial_cmp = { as_partial_cmp sign_order };
+
+    ghost laws = { po (on_total compared_bytes nat_list_cmp_total) signs_tied };
+
+    fn partial_cmp(&self, other: &Self) -> Option<Ordering> {
+        Some(self.cmp(other))
+    }
+}
+
+impl Ord for CallSign {
+    ghost use Rattle.call_signs.specs.Signs.{compared_bytes, sign_order};
+    ghost use Rattle.call_signs.specs.Tied.{signs_tied};
+
+    ghost cmp = { sign_order };
+
+    ghost total = { on_total compared_bytes nat_list_cmp_total };
+
+    ghost matches_partial_cmp = { λ x y. refl };
+
+    ghost matches_eq = { signs_tied };
+
+    fn cmp(&self, other: &Self) -> Ordering {
+        self.compared().cmp(other.compared())
+    }
+}
+
 impl Key for CallSign {
-    ghost same = { same_sign };
+    ghost use Rattle.call_signs.specs.Signs.{compared_bytes, sign_hash, written_sign, sign_from};
+    ghost use Rattle.call_signs.specs.ReadBack.{sign_read_back, written_few};
 
     ghost hashed = { sign_hash };
 
@@ -173,37 +198,28 @@ impl Key for CallSign {
 
     ghost parsed = { sign_from };
 
-    ghost equality = { pulled_equality compared_bytes (lists_equiv nat_eq_equiv) };
-
     ghost agree = { λ x y e. ap (λ bytes. little_endian 8 (padded bytes) 0) ((bytes_decides (compared_bytes x) (compared_bytes y)).0 e) };
 
-    ghost short = { Prim.search rules };
+    ghost short = { written_few };
 
-    ghost again = { sign_again };
-
-    fn equals(&self, other: &Self) -> bool {
-        let x = self.compared();
-        let y = other.compared();
-        &x.bytes[0..x.len] == &y.bytes[0..y.len]
-    }
+    ghost again = { sign_read_back };
 
     fn hash(&self) -> u64 {
-        u64::from_le_bytes(self.compared().bytes)
+        u64::from_le_bytes(self.padded())
     }
 
-    fn write(&self, out: &mut [u8], at: usize) -> usize {
-        let sign = self.spelled();
-        let next = put(out, at, sign.len as u8);
-        put_text(out, next, &sign.bytes)
+    fn write(&self, writer: &mut Writer<'_>) {
+        writer.put(self.len as u8);
+        writer.put_text(&self.bytes);
     }
 
     fn read(bytes: &[u8]) -> Option<Self> {
         let [len, rest @ ..] = bytes else {
             return None;
         };
-        let len = *len as usize;
-        if rest.len() == 8 && len <= 8 && all_zero(&rest[len..8]) {
-            CallSign::from_bytes(&rest[0..len])
+        let len = usize::from(*len);
+        if rest.len() == 8 && len <= 8 && all_zero(&rest[len..]) {
+            CallSign::try_from(&rest[..len]).ok()
         } else {
             None
         }
@@ -211,39 +227,31 @@ impl Key for CallSign {
 }
 
 impl OrderedKey for CallSign {
-    ghost order = { sign_order };
+    ghost use Rattle.call_signs.specs.Signs.{compared_bytes, sign_order};
+    ghost use Rattle.call_signs.specs.Tied.{same_ties};
 
     ghost parts = { sign_order };
 
-    ghost ranked = { pulled_ranking compared_bytes (lists_total nat_cmp_total) };
+    ghost sorted = { on_total compared_bytes nat_list_cmp_total };
 
-    ghost sorted = { pulled_ranking compared_bytes (lists_total nat_cmp_total) };
-
-    ghost ties = { signs_tied };
-
-    ghost tied = { λ x y e. tie_is_equal _ (signs_tied x y ∙ e) };
-
-    fn compare(&self, other: &Self) -> Ordering {
-        let x = self.compared();
-        let y = other.compared();
-        let mine = &x.bytes[0..x.len];
-        let theirs = &y.bytes[0..y.len];
-        mine.cmp(&theirs)
-    }
+    ghost tied = { same_ties };
 
     fn compare_parts(&self, other: &Self) -> Ordering {
-        self.compare(other)
+        self.cmp(other)
     }
 }
 
 impl JournalKey for CallSign {
+    ghost use Rattle.call_signs.specs.Signs.{shown_sign};
+    ghost use Rattle.call_signs.specs.ReadBack.{written_long, sign_only_written};
+
     ghost width = { 9 };
 
     ghost shown = { shown_sign };
 
     ghost narrow = { Prim.search rules };
 
-    ghost sized = { Prim.search rules };
+    ghost sized = { written_long };
 
     ghost only = { λ bytes x fit h. sign_only_written bytes x h };
 
@@ -251,13 +259,8 @@ impl JournalKey for CallSign {
         9
     }
 
-    fn show(&self, out: &mut [u8], at: usize) -> usize {
-        let sign = self.spelled();
-        let letters = &sign.bytes[0..sign.len];
-        let mut next = at;
-        for byte in letters {
-            next = put(out, next, printed(*byte));
-        }
-        next
+    fn show(&self, writer: &mut Writer<'_>) {
+        let shown = self.bytes.map(printed);
+        writer.put_text(&shown[..self.len]);
     }
 }

@@ -1,10 +1,6 @@
 -- The first of several causes, each of which may be there or not.
-use Rattle.std.specs.Prelude.{Bool, true, false, List, [], ◌∷◌, Some, None, Option}
+use Rattle.std.specs.Prelude.{List, [], ◌∷◌, Some, None, Option}
 use Rattle.faults.specs.declared.told.Told.{Told}
-
-abbrev pub when : Bool → Told → Option Told
-when true told = Some told
-when false told = None
 
 abbrev pub first_of : List (Option Told) → Option Told
 first_of [] = None

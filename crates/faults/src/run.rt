@@ -3,43 +3,47 @@ ghost use Rattle.std.specs.Prelude.{◌≡◌};
 ghost use Rattle.faults.specs.Numbers.{run_told};
 
 use crate::told::{Layer, Told};
+use thiserror::Error;
 
 // A row out of order is told by its place in the batch.
-#[derive(Clone, Copy)]
+#[derive(Clone, Copy, Debug, PartialEq, Eq, Error)]
 pub enum RunFault {
+    #[error("the run is finished")]
     Finished,
+    #[error("the batch has more than 256 rows")]
     BatchTooLong,
+    #[error("row {0} of the batch is out of order")]
     OutOfOrder(usize),
+    #[error("the run would have accepted more rows than it can count")]
     TooManyAccepted,
+    #[error("there is no room for the batch among the waiting rows")]
     WaitingFull,
+    #[error("there is no room for the batch among the kept rows")]
     KeptFull,
+    #[error("there is no room for the keys of the batch")]
     KeysFull,
+    #[error("the output has no room for every waiting row")]
     OutputTooShort,
 }
 
-fn run_fault(number: u8, place: usize) -> Told
-    ensures { result ≡ record { layer = Layer.Run; number = number; place = place } }
-{
-    Told {
-        layer: Layer::Run,
-        number,
-        place,
-    }
-}
+impl From<RunFault> for Told {
+    ghost from_gives = { λ fault told. told ≡ run_told fault };
 
-impl RunFault {
-    pub fn told(self) -> Told
-        ensures { result ≡ run_told self }
-    {
-        match self {
-            RunFault::Finished => run_fault(7, 0),
-            RunFault::BatchTooLong => run_fault(8, 0),
-            RunFault::OutOfOrder(row) => run_fault(9, row),
-            RunFault::TooManyAccepted => run_fault(10, 0),
-            RunFault::WaitingFull => run_fault(11, 0),
-            RunFault::KeptFull => run_fault(12, 0),
-            RunFault::KeysFull => run_fault(13, 0),
-            RunFault::OutputTooShort => run_fault(14, 0),
+    fn from(fault: RunFault) -> Told {
+        let (number, place) = match fault {
+            RunFault::Finished => (7, 0),
+            RunFault::BatchTooLong => (8, 0),
+            RunFault::OutOfOrder(row) => (9, row),
+            RunFault::TooManyAccepted => (10, 0),
+            RunFault::WaitingFull => (11, 0),
+            RunFault::KeptFull => (12, 0),
+            RunFault::KeysFull => (13, 0),
+            RunFault::OutputTooShort => (14, 0),
+        };
+        Told {
+            layer: Layer::Run,
+            number,
+            place,
         }
     }
 }

@@ -6,8 +6,8 @@ use Rattle.std.proofs.lemmas.Option.{slice_get-get_or, slice_get_past}
 use Rattle.std.proofs.lemmas.List.Sums.{fold_more}
 use Rattle.std.proofs.lemmas.Bool.{cases_lt, le-leb, lt-leb, cond-true, cond-false}
 use Rattle.figures.specs.declared.carry.Carry.{Carry}
-use Rattle.figures.specs.declared.cells.Cell.{Cell}
 use Rattle.figures.specs.declared.figure.Figure as figure
+use Rattle.figures.specs.Cells.{Cell}
 use Rattle.figures.specs.Catching.{due, last, worked, absorbed_row, passed, stretch, carry_after, caught_up, Held, Right, UpToDate, BroughtUp, Follows, KeepsUp}
 use Rattle.figures.specs.Results.{carried, outcome_of}
 use Rattle.figures.proofs.Framed.{nth_drop}

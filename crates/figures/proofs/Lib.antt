@@ -1,4 +1,3 @@
-pub mod Folds
 pub mod Framed
 pub mod Kept
 pub mod Largest

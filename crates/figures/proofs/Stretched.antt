@@ -2,9 +2,8 @@
 use Rattle.std.proofs.Common.{◌≡◌, ℕ, suc, ◌+◌, ◌-◌, ◌<◌, List, [], ◌∷◌, ◌++◌, length, take, set, sym, ap, ◌∙◌, append_assoc, arith}
 use Rattle.std.proofs.lemmas.List.{take_more_set}
 use Rattle.figures.specs.declared.carry.Carry.{Carry}
-use Rattle.figures.specs.declared.cells.Cell.{Cell}
-use Rattle.figures.specs.declared.cells.Outcome.{Outcome}
 use Rattle.figures.specs.declared.figure.Figure as figure
+use Rattle.figures.specs.Cells.{Cell, Outcome}
 use Rattle.figures.specs.Catching.{worked, passed, stretch, carry_after}
 
 module _ {F : Type 0} (g : figure.Ghosts F) (f : F) (k k' : Carry) (first : ℕ) (rows : List (List Cell)) (from j n : ℕ) (turn : j < n) (next : k' ≡ passed g f k first rows (from + j)) where

@@ -1,10 +1,9 @@
 -- One key caught up: what a figure gives from a part of the key's rows, the first of which has the rank `first`, and from the carry of a rank.
-use Rattle.std.specs.Prelude.{◌≡◌, ℕ, zero, suc, ◌+◌, ◌-◌, ◌<◌, ◌≤◌, min, Bool, true, false, cond, ◌||◌, List, [], ◌∷◌, ◌++◌, map, length, take, drop, Some, None, Option, nat_le, nat_lt}
+use Rattle.std.specs.Prelude.{◌≡◌, ℕ, zero, suc, ◌+◌, ◌-◌, ◌<◌, ◌≤◌, min, Bool, true, false, if◌then◌else◌, ◌||◌, List, [], ◌∷◌, ◌++◌, map, length, take, drop, Some, None, Option, nat_le, nat_lt}
 use Rattle.std.specs.List.{range_with_len, slice_get}
 use Rattle.figures.specs.declared.carry.Carry.{Carry}
-use Rattle.figures.specs.declared.cells.Cell.{Cell}
-use Rattle.figures.specs.declared.cells.Outcome.{Outcome}
 use Rattle.figures.specs.declared.figure.Figure as figure
+use Rattle.figures.specs.Cells.{Cell, Outcome}
 use Rattle.figures.specs.Results.{carried, outcome_of}
 
 -- the result of rank i, of a figure that reaches `a` rows ahead, is due: so many later rows of the key have come, or the key has ended
@@ -13,7 +12,7 @@ is_due n ended a i = ended || nat_lt (i + a) n
 
 -- how many of n rows have a due result
 abbrev pub due : ℕ → Bool → ℕ → ℕ
-due n ended a = cond ended n (n - a)
+due n ended a = if ended then n else n - a
 
 -- the last k of a list
 abbrev pub last : {X : Type 0} → ℕ → List X → List X
@@ -30,7 +29,7 @@ module _ {F : Type 0} (g : figure.Ghosts F) (f : F) where
 
   -- the carry of the rank after i, from that of i: the row that the frame leaves behind is absorbed
   abbrev pub passed : Carry → ℕ → List (List Cell) → ℕ → Carry
-  passed k first rows i = cond (nat_le (g.back f) i) (absorbed_row k (slice_get rows (i - g.back f - first))) k
+  passed k first rows i = if nat_le (g.back f) i then absorbed_row k (slice_get rows (i - g.back f - first)) else k
 
   -- the results of n ranks from i on, and the carry of the rank after them
   abbrev pub stretch : Carry → ℕ → List (List Cell) → ℕ → ℕ → List Outcome

@@ -1,24 +1,21 @@
 -- The letters' lines: each letter's result in the words of SQL (ISO/IEC 9075-2, frames in ROWS), over the whole partition, which is the list of all the rows of a key. An absent cell is a null: the aggregates leave it out, and the others respect it.
-use Rattle.std.specs.Prelude.{◌≡◌, ℕ, suc, ◌+◌, ◌-◌, ◌/◌, ◌^◌, ◌<◌, Bool, cond, ◌&&◌, List, [], ◌∷◌, length, ℤ, pos, negsuc, ◌+ℤ◌, neg_ℤ, ◌≤ℤ◌, Some, None, fold, Option, nat_le}
-use Rattle.std.specs.List.{ContainsAt, AllByRecursion, slice_get}
-use Rattle.figures.specs.declared.cells.Cell.{Cell}
+use Rattle.std.specs.Prelude.{◌≡◌, ℕ, suc, ◌+◌, ◌-◌, ◌/◌, ◌^◌, ◌<◌, Bool, if◌then◌else◌, ◌&&◌, List, [], ◌∷◌, length, ℤ, pos, negsuc, ◌+ℤ◌, neg_ℤ, ◌≤ℤ◌, Some, None, All, Contains, Option, nat_le}
+use Rattle.std.specs.List.{slice_get}
 use Rattle.figures.specs.declared.cells.Column.{Column}
-use Rattle.figures.specs.declared.cells.Outcome.{Outcome}
-use Rattle.figures.specs.declared.cells.Outcome.TheVariants.{Missing, Value}
 use Rattle.figures.specs.declared.extremes.Extreme.{Extreme}
 use Rattle.figures.specs.declared.extremes.Extreme.TheVariants.{Least, Greatest}
 use Rattle.figures.specs.declared.letters.Letter.{Letter}
 use Rattle.figures.specs.declared.letters.Letter.TheVariants.{RowNumber, RunningSum, Rows, Present, Sum, Lowest, Highest, First, Last, Earlier, Later, Mean}
 use Rattle.figures.specs.declared.letters.LetterFigure.{LetterFigure}
-use Rattle.figures.specs.Cells.{numbers, cell_of, RowsFit}
-use Rattle.figures.specs.Extremes.{further}
+use Rattle.figures.specs.Cells.{Cell, Outcome, numbers, cell_of, RowsFit}
+use Rattle.figures.specs.Extremes.{extreme_of}
 use Rattle.figures.specs.Results.{outcome_of}
 use Rattle.figures.specs.Rules.{meaning}
 
 -- the rows whose rank passes a test, the first having the rank j
 abbrev pub picked : {X : Type 0} → (ℕ → Bool) → ℕ → List X → List X
 picked test j [] = []
-picked test j (x ∷ xs) = cond (test j) (x ∷ picked test (j + 1) xs) (picked test (j + 1) xs)
+picked test j (x ∷ xs) = if test j then x ∷ picked test (j + 1) xs else picked test (j + 1) xs
 
 -- ROWS BETWEEN b PRECEDING AND a FOLLOWING, of the row of rank i
 abbrev pub rows_between : {X : Type 0} → ℕ → ℕ → ℕ → List X → List X
@@ -43,8 +40,8 @@ total (x ∷ xs) = x +ℤ total xs
 
 -- an aggregate of no number is null
 abbrev pub null_of_none : List ℤ → ℤ → Outcome
-null_of_none [] v = Missing
-null_of_none (x ∷ xs) v = Value v
+null_of_none [] v = None
+null_of_none (x ∷ xs) v = Some v
 
 -- SUM
 abbrev pub sum_of : List ℤ → Outcome
@@ -58,20 +55,15 @@ per (negsuc a) n = neg_ℤ (pos (suc a / n))
 abbrev pub mean_of : List ℤ → Outcome
 mean_of ns = null_of_none ns (per (total ns) (length ns))
 
--- MIN and MAX
-abbrev pub extreme_of : Extreme → List ℤ → Outcome
-extreme_of e [] = Missing
-extreme_of e (x ∷ xs) = Value (fold (further e) x xs)
-
 -- of a letter, its column, its reaches, the partition and the row's rank
 abbrev pub line : Letter → Column → ℕ → ℕ → List (List Cell) → ℕ → Outcome
 -- ROW_NUMBER()
-line RowNumber c b a rows i = Value (pos (i + 1))
+line RowNumber c b a rows i = Some (pos (i + 1))
 -- SUM(c) over the rows so far
 line RunningSum c b a rows i = sum_of (numbers c (rows_so_far i rows))
 -- COUNT(*), COUNT(c), SUM(c), MIN(c), MAX(c), SUM(c) / COUNT(c) over the frame
-line Rows c b a rows i = Value (pos (length (rows_between b a i rows)))
-line Present c b a rows i = Value (pos (length (numbers c (rows_between b a i rows))))
+line Rows c b a rows i = Some (pos (length (rows_between b a i rows)))
+line Present c b a rows i = Some (pos (length (numbers c (rows_between b a i rows))))
 line Sum c b a rows i = sum_of (numbers c (rows_between b a i rows))
 line Lowest c b a rows i = extreme_of Least (numbers c (rows_between b a i rows))
 line Highest c b a rows i = extreme_of Greatest (numbers c (rows_between b a i rows))
@@ -80,7 +72,7 @@ line Mean c b a rows i = mean_of (numbers c (rows_between b a i rows))
 line First c b a rows i = cell_of c (first_of (rows_between b a i rows))
 line Last c b a rows i = cell_of c (last_of (rows_between b a i rows))
 -- LAG(c, b)
-line Earlier c b a rows i = cond (nat_le b i) (cell_of c (slice_get rows (i - b))) Missing
+line Earlier c b a rows i = if nat_le b i then cell_of c (slice_get rows (i - b)) else None
 -- LEAD(c, a)
 line Later c b a rows i = cell_of c (slice_get rows (i + a))
 
@@ -94,10 +86,10 @@ abbrev pub Within : Extreme → ℤ → ℤ → Type 0
 Within Least m y = m ≤ℤ y
 Within Greatest m y = y ≤ℤ m
 
--- missing of no number; else one of them, and none lies beyond it
+-- none of no number; else one of them, and none lies beyond it
 abbrev pub IsExtreme : Extreme → List ℤ → Outcome → Type 0
-IsExtreme e [] o = o ≡ Missing
-IsExtreme e (x ∷ xs) o = (m : ℤ) × (o ≡ Value m) × ContainsAt (x ∷ xs) m × AllByRecursion (Within e m) (x ∷ xs)
+IsExtreme e [] o = o ≡ None
+IsExtreme e (x ∷ xs) o = (m : ℤ) × (o ≡ Some m) × Contains (x ∷ xs) m × All (Within e m) (x ∷ xs)
 
 abbrev pub ExtremesHold : Type 0
 ExtremesHold = (e : Extreme) (ns : List ℤ) → IsExtreme e ns (extreme_of e ns)

@@ -1,9 +1,8 @@
 -- The result of any figure at a rank, over the list of all the rows of a key. A difference of numbers stops at 0.
 use Rattle.std.specs.Prelude.{ℕ, ◌+◌, ◌-◌, List, take, drop, fold}
 use Rattle.figures.specs.declared.carry.Carry.{Carry}
-use Rattle.figures.specs.declared.cells.Cell.{Cell}
-use Rattle.figures.specs.declared.cells.Outcome.{Outcome}
 use Rattle.figures.specs.declared.figure.Figure as figure
+use Rattle.figures.specs.Cells.{Cell, Outcome}
 
 -- the rows of the ranks max(0, i - b) to min(n - 1, i + a), where there are n
 abbrev pub frame : {X : Type 0} → ℕ → ℕ → ℕ → List X → List X

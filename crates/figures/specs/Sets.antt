@@ -1,7 +1,7 @@
 -- The figures of a set, in their order.
-use Rattle.std.specs.Prelude.{ℕ, ◌≤◌, max, List, [], ◌∷◌, map, fold}
-use Rattle.std.specs.List.{ContainsAt, AllByRecursion}
+use Rattle.std.specs.Prelude.{ℕ, ◌≤◌, max, List, [], ◌∷◌, map, drop, fold, All, Contains}
 use Rattle.figures.specs.declared.set.FigureSet.{FigureSet}
+use Rattle.figures.specs.declared.set.Figures.{Figures}
 use Rattle.figures.specs.declared.set.FigureSet.TheVariants.{One, Two, Three, Four}
 
 abbrev pub figures : {F : Type 0} → FigureSet F → List F
@@ -16,5 +16,9 @@ largest n fs = fold (λ m f. max m (n f)) 0 fs
 
 -- it is one of theirs, and no figure has more
 pub record IsLargest {F : Type 0} (n : F → ℕ) (fs : List F) (m : ℕ) : Type 0 where
-  pub reached : ContainsAt (map n fs) m
-  pub covers : AllByRecursion (λ f. n f ≤ m) fs
+  pub reached : Contains (map n fs) m
+  pub covers : All (λ f. n f ≤ m) fs
+
+-- the figures that an iterator has left
+abbrev pub figures_left : {F : Type 0} → Figures F → List F
+figures_left s = drop s.next (figures s.set.now)

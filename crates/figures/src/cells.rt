@@ -1,25 +1,17 @@
 // A row's cells, and what a figure answers.
-ghost use Rattle.std.specs.Prelude.{◌≡◌};
-ghost use Rattle.std.specs.List.{AllByRecursion};
-ghost use Rattle.figures.specs.Cells.{cell, shown, CellFits, RowsFit};
+ghost use Rattle.std.specs.Prelude.{◌≡◌, All};
+ghost use Rattle.std.specs.Result.{result_ok};
+ghost use Rattle.figures.specs.Cells.{cell, CellFits, RowsFit};
 ghost use Rattle.figures.specs.Named.{place, Names};
 
-// A cell is absent or a number.
-#[derive(Clone, Copy)]
-pub enum Cell {
-    Absent,
-    Number(i32),
-}
+// A cell is a number, or none where it is absent.
+pub type Cell = Option<i32>;
 
-// A result is missing or a value.
-#[derive(Clone, Copy)]
-pub enum Outcome {
-    Missing,
-    Value(i64),
-}
+// A result is a value, or none where it is missing.
+pub type Outcome = Option<i64>;
 
 // One of a row's four cells. There is no fifth, so each figure has a meaning at every column.
-#[derive(Clone, Copy)]
+#[derive(Clone, Copy, Debug, PartialEq, Eq)]
 pub enum Column {
     C0,
     C1,
@@ -27,63 +19,60 @@ pub enum Column {
     C3,
 }
 
-// The column of a number: none above 3.
-pub fn column_of(number: u8) -> Option<Column>
-    ensures { Names place number result }
-{
-    match number {
-        0 => Some(Column::C0),
-        1 => Some(Column::C1),
-        2 => Some(Column::C2),
-        3 => Some(Column::C3),
-        _ => None,
+// A number that names no column: one above 3.
+#[derive(Clone, Copy, Debug, PartialEq, Eq)]
+pub struct UnknownColumn(pub u8);
+
+impl TryFrom<u8> for Column {
+    type Error = UnknownColumn;
+
+    ghost try_from_gives = { λ number r. Names place number (result_ok r) };
+
+    fn try_from(number: u8) -> Result<Column, UnknownColumn> {
+        match number {
+            0 => Ok(Column::C0),
+            1 => Ok(Column::C1),
+            2 => Ok(Column::C2),
+            3 => Ok(Column::C3),
+            _ => Err(UnknownColumn(number)),
+        }
     }
 }
 
-// The cell of a column.
-pub(crate) fn cell_at(column: Column, cells: &[Cell; 4]) -> Cell
-    ensures { result ≡ cell column cells.now }
-{
-    match column {
-        Column::C0 => cells[0],
-        Column::C1 => cells[1],
-        Column::C2 => cells[2],
-        Column::C3 => cells[3],
+impl Column {
+    // The column's cell of a row.
+    pub(crate) fn cell(self, cells: &[Cell; 4]) -> Cell
+        ensures { result ≡ cell self cells.now }
+    {
+        match self {
+            Column::C0 => cells[0],
+            Column::C1 => cells[1],
+            Column::C2 => cells[2],
+            Column::C3 => cells[3],
+        }
     }
-}
 
-// A cell as a result.
-pub(crate) fn show(cell: Cell) -> Outcome
-    ensures { result ≡ shown cell }
-{
-    match cell {
-        Cell::Absent => Outcome::Missing,
-        Cell::Number(x) => Outcome::Value(x as i64),
+    // The cell as a result.
+    pub(crate) fn shown(self, cells: &[Cell; 4]) -> Outcome
+        ensures { result ≡ cell self cells.now }
+    {
+        self.cell(cells).map(i64::from)
     }
 }
 
 fn cell_fits(cell: Cell)
     ensures { CellFits cell }
-{
-    match cell {
-        Cell::Absent => {}
-        Cell::Number(_x) => {}
-    }
-}
+{}
 
 // The cells of a row that a program holds are numbers of 32 bits.
 pub fn row_fits(cells: &[Cell; 4])
-    ensures { AllByRecursion CellFits cells.now }
+    ensures { All CellFits cells.now }
 {
-    for cell in cells {
-        cell_fits(*cell);
-    }
+    cells.iter().for_each(|cell| cell_fits(*cell));
 }
 
 pub(crate) fn rows_fit(rows: &[[Cell; 4]])
     ensures { RowsFit rows.now }
 {
-    for row in rows {
-        row_fits(row);
-    }
+    rows.iter().for_each(row_fits);
 }

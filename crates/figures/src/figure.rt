@@ -1,8 +1,7 @@
 // What a figure is.
 ghost use Rattle.std.specs.Prelude.{◌≡◌, ℕ, List};
-ghost use Rattle.figures.specs.declared.cells.Cell.{Cell};
-ghost use Rattle.figures.specs.declared.cells.Outcome.{Outcome};
 ghost use Rattle.figures.specs.declared.carry.Carry.{Carry};
+ghost use Rattle.figures.specs.Cells.{Cell, Outcome};
 
 use crate::carry::Carry;
 use crate::cells::{Cell, Outcome};

@@ -1,16 +1,18 @@
 // The figures that a letter names.
-ghost use Rattle.std.specs.Prelude.{◌≡◌, ◌+◌, ◌-◌, length, take, pos, if◌then◌else◌, nat_le};
+ghost use Rattle.std.specs.Prelude.{◌≡◌, ◌+◌, ◌-◌, length, take, fold, pos};
+ghost use Rattle.std.specs.Result.{result_ok};
 ghost use Rattle.std.specs.List.{slice_get};
+ghost use Rattle.figures.specs.Carries.{absorbed};
 ghost use Rattle.figures.specs.Cells.{cell_of};
 ghost use Rattle.figures.specs.Named.{code, Names};
-ghost use Rattle.figures.specs.Rules.{sum_shown, mean_shown, meaning};
+ghost use Rattle.figures.specs.Rules.{meaning, cell_before};
 
-use crate::carry::{Carry, absorb_all, add, add_cell, fresh_carry};
-use crate::cells::{Cell, Column, Outcome, cell_at, show};
-use crate::extremes::{Extreme, extreme_of};
+use crate::carry::{Carry, plus};
+use crate::cells::{Cell, Column, Outcome};
+use crate::extremes::Extreme;
 use crate::figure::Figure;
 
-#[derive(Clone, Copy)]
+#[derive(Clone, Copy, Debug, PartialEq, Eq)]
 pub enum Letter {
     // n: the row's number, from 1
     RowNumber,
@@ -38,29 +40,36 @@ pub enum Letter {
     Mean,
 }
 
-// The letter that a settings byte names.
-pub fn letter_of(byte: u8) -> Option<Letter>
-    ensures { Names code byte result }
-{
-    match byte as char {
-        'n' => Some(Letter::RowNumber),
-        'r' => Some(Letter::RunningSum),
-        'k' => Some(Letter::Rows),
-        'c' => Some(Letter::Present),
-        's' => Some(Letter::Sum),
-        'l' => Some(Letter::Lowest),
-        'h' => Some(Letter::Highest),
-        'f' => Some(Letter::First),
-        't' => Some(Letter::Last),
-        'g' => Some(Letter::Earlier),
-        'd' => Some(Letter::Later),
-        'a' => Some(Letter::Mean),
-        _ => None,
+// A settings byte that names no letter.
+#[derive(Clone, Copy, Debug, PartialEq, Eq)]
+pub struct UnknownLetter(pub u8);
+
+impl TryFrom<u8> for Letter {
+    type Error = UnknownLetter;
+
+    ghost try_from_gives = { λ byte r. Names code byte (result_ok r) };
+
+    fn try_from(byte: u8) -> Result<Letter, UnknownLetter> {
+        match byte as char {
+            'n' => Ok(Letter::RowNumber),
+            'r' => Ok(Letter::RunningSum),
+            'k' => Ok(Letter::Rows),
+            'c' => Ok(Letter::Present),
+            's' => Ok(Letter::Sum),
+            'l' => Ok(Letter::Lowest),
+            'h' => Ok(Letter::Highest),
+            'f' => Ok(Letter::First),
+            't' => Ok(Letter::Last),
+            'g' => Ok(Letter::Earlier),
+            'd' => Ok(Letter::Later),
+            'a' => Ok(Letter::Mean),
+            _ => Err(UnknownLetter(byte)),
+        }
     }
 }
 
 // A letter's figure over the cells of one column. Every letter has its meaning at every column and reach; which of them settings may ask for is not decided here.
-#[derive(Clone, Copy)]
+#[derive(Clone, Copy, Debug, PartialEq, Eq)]
 pub struct LetterFigure {
     pub letter: Letter,
     pub column: Column,
@@ -68,39 +77,38 @@ pub struct LetterFigure {
     pub after: u16,
 }
 
-// The sum that a carry holds, missing where it has no number.
-fn show_sum(carry: Carry) -> Outcome
-    ensures { result ≡ sum_shown carry }
-{
-    if carry.present > 0 {
-        Outcome::Value(carry.sum)
-    } else {
-        Outcome::Missing
-    }
-}
-
-// The mean of the numbers that a carry holds, the fraction dropped toward zero.
-fn show_mean(carry: Carry) -> Outcome
-    ensures { result ≡ mean_shown carry }
-{
-    if carry.present > 0 {
-        Outcome::Value(carry.sum / carry.present)
-    } else {
-        Outcome::Missing
-    }
-}
-
 // The cell of the row at a place, missing where there is no such row.
-fn show_cell(column: Column, rows: &[[Cell; 4]], k: usize) -> Outcome
-    ensures { result ≡ cell_of column (slice_get rows.now k) }
+// Column and rows stay two parameters: a figure has the one, a frame is the other.
+fn shown_cell(column: Column, rows: &[[Cell; 4]], place: usize) -> Outcome
+    ensures { result ≡ cell_of column (slice_get rows.now place) }
 {
-    if k < rows.len() {
-        show(cell_at(column, &rows[k]))
-    } else {
-        Outcome::Missing
-    }
+    column.shown(rows.get(place)?)
 }
 
+// The cell `before` rows before the row at the position.
+fn earlier(column: Column, before: u16, rows: &[[Cell; 4]], position: usize) -> Outcome
+    ensures { result ≡ cell_before column before rows.now position }
+{
+    let place = position.checked_sub(usize::from(before))?;
+    shown_cell(column, rows, place)
+}
+
+// The cell `after` rows after the row at the position.
+fn later(column: Column, after: u16, rows: &[[Cell; 4]], position: usize) -> Outcome
+    ensures { result ≡ cell_of column (slice_get rows.now (position + after)) }
+{
+    let place = position.checked_add(usize::from(after))?;
+    shown_cell(column, rows, place)
+}
+
+// The cell of the last row.
+fn last(column: Column, rows: &[[Cell; 4]]) -> Outcome
+    ensures { result ≡ cell_of column (slice_get rows.now (length rows.now - 1)) }
+{
+    column.shown(rows.last()?)
+}
+
+// How many rows there are.
 fn count(rows: &[[Cell; 4]]) -> i64
     ensures { result ≡ pos (length rows.now) }
 {
@@ -111,41 +119,15 @@ fn count(rows: &[[Cell; 4]]) -> i64
 fn up_to(rows: &[[Cell; 4]], position: usize) -> &[[Cell; 4]]
     ensures { result.now ≡ take (position + 1) rows.now }
 {
-    if position < rows.len() {
-        &rows[0..position + 1]
-    } else {
-        rows
-    }
+    rows.get(..=position).unwrap_or(rows)
 }
 
-// The cell `before` rows before the row at the position.
-fn earlier(column: Column, before: u16, rows: &[[Cell; 4]], position: usize) -> Outcome
-    ensures { result ≡ (if nat_le before position then cell_of column (slice_get rows.now (position - before)) else Outcome.Missing) }
+// What a carry becomes with some rows. No generic fold over `Figure::absorb`: at this type it leads back to `value` below, and gets no proof.
+fn absorb_all(column: Column, carry: Carry, rows: &[[Cell; 4]]) -> Carry
+    ensures { result ≡ fold (absorbed column) carry rows.now }
 {
-    let back = before as usize;
-    if back <= position {
-        show_cell(column, rows, position - back)
-    } else {
-        Outcome::Missing
-    }
-}
-
-// The cell `after` rows after the row at the position.
-fn later(column: Column, after: u16, rows: &[[Cell; 4]], position: usize) -> Outcome
-    ensures { result ≡ cell_of column (slice_get rows.now (position + after)) }
-{
-    if position < rows.len() {
-        show_cell(column, rows, position + after as usize)
-    } else {
-        Outcome::Missing
-    }
-}
-
-// The cell of the last row.
-fn last(column: Column, rows: &[[Cell; 4]]) -> Outcome
-    ensures { result ≡ cell_of column (slice_get rows.now (length rows.now - 1)) }
-{
-    show_cell(column, rows, rows.len().saturating_sub(1))
+    rows.iter()
+        .fold(carry, |all, row| all.add(column.cell(row)))
 }
 
 impl Figure for LetterFigure {
@@ -168,29 +150,28 @@ impl Figure for LetterFigure {
     }
 
     fn start(&self) -> Carry {
-        fresh_carry()
+        Carry::default()
     }
 
     fn absorb(&self, carry: Carry, cells: &[Cell; 4]) -> Carry {
-        add_cell(carry, cell_at(self.column, cells))
+        carry.add(self.column.cell(cells))
     }
 
     fn value(&self, carry: &Carry, frame: &[[Cell; 4]], position: usize) -> Outcome {
+        let column = self.column;
         match self.letter {
-            Letter::RowNumber => Outcome::Value(add(carry.rows, count(up_to(frame, position)))),
-            Letter::RunningSum => show_sum(absorb_all(self.column, *carry, up_to(frame, position))),
-            Letter::Rows => Outcome::Value(count(frame)),
-            Letter::Present => Outcome::Value(
-                absorb_all(self.column, fresh_carry(), frame).present,
-            ),
-            Letter::Sum => show_sum(absorb_all(self.column, fresh_carry(), frame)),
-            Letter::Lowest => extreme_of(Extreme::Least, self.column, frame),
-            Letter::Highest => extreme_of(Extreme::Greatest, self.column, frame),
-            Letter::First => show_cell(self.column, frame, 0),
-            Letter::Last => last(self.column, frame),
-            Letter::Earlier => earlier(self.column, self.before, frame, position),
-            Letter::Later => later(self.column, self.after, frame, position),
-            Letter::Mean => show_mean(absorb_all(self.column, fresh_carry(), frame)),
+            Letter::RowNumber => Some(plus(carry.rows, count(up_to(frame, position)))),
+            Letter::RunningSum => absorb_all(column, *carry, up_to(frame, position)).shown_sum(),
+            Letter::Rows => Some(count(frame)),
+            Letter::Present => Some(absorb_all(column, Carry::default(), frame).present),
+            Letter::Sum => absorb_all(column, Carry::default(), frame).shown_sum(),
+            Letter::Lowest => Extreme::Least.of(column, frame),
+            Letter::Highest => Extreme::Greatest.of(column, frame),
+            Letter::First => shown_cell(column, frame, 0),
+            Letter::Last => last(column, frame),
+            Letter::Earlier => earlier(column, self.before, frame, position),
+            Letter::Later => later(column, self.after, frame, position),
+            Letter::Mean => absorb_all(column, Carry::default(), frame).shown_mean(),
         }
     }
 }

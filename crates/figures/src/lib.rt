@@ -9,4 +9,5 @@ mod extremes;
 pub mod figure;
 pub mod letters;
 pub mod results;
+pub mod rows;
 pub mod set;

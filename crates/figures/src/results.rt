@@ -9,34 +9,29 @@ use crate::carry::Carry;
 use crate::cells::{Cell, Outcome, rows_fit};
 use crate::figure::Figure;
 use crate::letters::LetterFigure;
+use crate::rows::KeptRows;
 
-// The result of a rank, from its carry and the key's rows from the rank `first` on.
+// The result of a rank, from its carry and the rows that are kept.
 pub(crate) fn result_of<F: Figure>(
     figure: &F,
     carry: &Carry,
-    rows: &[[Cell; 4]],
-    first: u32,
+    kept: &KeptRows<'_>,
     rank: usize,
 ) -> Outcome
     requires { rank < 2 ^ 63 }
-    ensures { result ≡ worked F.Figure figure.now carry.now first rows.now rank }
+    ensures { result ≡ worked F.Figure figure.now carry.now kept.now.first kept.now.rows.now rank }
 {
-    let start = rank.saturating_sub(figure.before() as usize);
-    let end = rank + figure.after() as usize + 1;
-    let low = start.saturating_sub(first as usize).min(rows.len());
-    let high = end.saturating_sub(first as usize).min(rows.len());
-    figure.value(carry, &rows[low..high], rank - start)
+    let start = rank.saturating_sub(usize::from(figure.before()));
+    let end = rank + usize::from(figure.after()) + 1;
+    figure.value(carry, kept.between(start, end), rank - start)
 }
 
 // What the starting carry becomes with some rows.
 fn absorb_from_start<F: Figure>(figure: &F, rows: &[[Cell; 4]]) -> Carry
     ensures { result ≡ fold (F.Figure.absorbs figure.now) (F.Figure.starts figure.now) rows.now }
 {
-    let mut carry = figure.start();
-    for row in rows {
-        carry = figure.absorb(carry, row);
-    }
-    carry
+    rows.iter()
+        .fold(figure.start(), |carry, row| figure.absorb(carry, row))
 }
 
 // The result of a rank, from all of the key's rows.
@@ -44,10 +39,10 @@ pub fn result_at<F: Figure>(figure: &F, rows: &[[Cell; 4]], rank: u32) -> Outcom
     ensures { result ≡ outcome_of F.Figure figure.now rows.now rank }
 {
     let start = (rank as usize)
-        .saturating_sub(figure.before() as usize)
+        .saturating_sub(usize::from(figure.before()))
         .min(rows.len());
-    let carry = absorb_from_start(figure, &rows[0..start]);
-    result_of(figure, &carry, rows, 0, rank as usize)
+    let carry = absorb_from_start(figure, &rows[..start]);
+    result_of(figure, &carry, &KeptRows { first: 0, rows }, rank as usize)
 }
 
 // The result of a letter's figure at a rank, from all of the key's rows. For every letter, column, reach, key and rank it is the letter's line.

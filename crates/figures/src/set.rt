@@ -1,12 +1,14 @@
 // A set of one to four figures.
 ghost use Rattle.std.specs.Prelude.{◌≡◌, ◌+◌, length};
+ghost use Rattle.std.specs.Iterator.{YieldsFirstRef, item_count};
 ghost use Rattle.std.specs.Option.{option_map};
 ghost use Rattle.std.specs.List.{slice_get};
-ghost use Rattle.figures.specs.Sets.{figures, largest, IsLargest};
+ghost use Rattle.figures.specs.Sets.{figures, figures_left, largest, IsLargest};
 
 use crate::figure::Figure;
 
 // The figures in their order. A set without a figure, or with a gap between two, has no case.
+// Named fields and no array or vector: memory is fixed, and a `Result` can carry a set of any figures.
 #[derive(Drop)]
 pub enum FigureSet<F> {
     One {
@@ -59,6 +61,35 @@ impl<F> FigureSet<F> {
             _ => None,
         }
     }
+
+    // The figures, one after another.
+    pub fn iter(&self) -> Figures<'_, F>
+        ensures { figures_left result ≡ figures self.now }
+    {
+        Figures { set: self, next: 0 }
+    }
+}
+
+// The figures of a set from a place on.
+// By the place of the next: they stand in named fields, so that there is no slice to go over.
+#[derive(Drop)]
+pub struct Figures<'a, F> {
+    set: &'a FigureSet<F>,
+    next: usize,
+}
+
+impl<'a, F> Iterator for Figures<'a, F> {
+    type Item = &'a F;
+
+    ghost next_gives = { YieldsFirstRef figures_left };
+
+    ghost remaining = { item_count figures_left };
+
+    fn next(&mut self) -> Option<&'a F> {
+        let figure = self.set.get(self.next)?;
+        self.next += 1;
+        Some(figure)
+    }
 }
 
 impl<F: Figure> FigureSet<F> {
@@ -67,13 +98,7 @@ impl<F: Figure> FigureSet<F> {
         ensures value { result ≡ largest F.Figure.ahead (figures self.now) }
         ensures largest { IsLargest F.Figure.ahead (figures self.now) result }
     {
-        let mut most: u16 = 0;
-        for i in 0..self.len() {
-            if let Some(figure) = self.get(i) {
-                most = most.max(figure.after());
-            }
-        }
-        most
+        self.iter().fold(0, |most, figure| most.max(figure.after()))
     }
 
     // The largest sum of a figure's two reaches: how many of a key's last rows the results to come may need.
@@ -81,12 +106,8 @@ impl<F: Figure> FigureSet<F> {
         ensures value { result ≡ largest (λ f. F.Figure.back f + F.Figure.ahead f) (figures self.now) }
         ensures largest { IsLargest (λ f. F.Figure.back f + F.Figure.ahead f) (figures self.now) result }
     {
-        let mut most: u32 = 0;
-        for i in 0..self.len() {
-            if let Some(figure) = self.get(i) {
-                most = most.max(figure.before() as u32 + figure.after() as u32);
-            }
-        }
-        most
+        self.iter().fold(0, |most, figure| {
+            most.max(u32::from(figure.before()) + u32::from(figure.after()))
+        })
     }
 }

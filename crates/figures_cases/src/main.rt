@@ -4,69 +4,51 @@
 ghost use Rattle.std.specs.Prelude.{◌≤◌, length};
 
 use figures::catching::{catch_up, due_rows};
-use figures::cells::{Cell, Column, Outcome, column_of};
+use figures::cells::{Cell, Column, Outcome};
 use figures::figure::Figure;
-use figures::letters::{Letter, LetterFigure, letter_of};
+use figures::letters::{Letter, LetterFigure};
 use figures::results::letter_at;
+use figures::rows::KeptRows;
 use std::alloc::{AllocError, Global};
 use std::io;
-use std::str::SplitWhitespace;
+use std::str::{FromStr, SplitWhitespace};
 
 // How many rows come at a time.
 const BATCH: usize = 5;
 
-fn read_cell(word: &str) -> Option<Cell> {
-    if word == "-" {
-        return Some(Cell::Absent);
-    }
-    match word.parse::<i32>() {
-        Ok(x) => Some(Cell::Number(x)),
-        Err(_) => None,
-    }
-}
-
-fn read_result(word: &str) -> Option<Outcome> {
-    if word == "-" {
-        return Some(Outcome::Missing);
-    }
-    match word.parse::<i64>() {
-        Ok(x) => Some(Outcome::Value(x)),
-        Err(_) => None,
-    }
-}
-
-fn same(a: Outcome, b: Outcome) -> bool {
-    match (a, b) {
-        (Outcome::Missing, Outcome::Missing) => true,
-        (Outcome::Value(x), Outcome::Value(y)) => x == y,
-        _ => false,
+// A number, or "-" where there is none.
+fn read_value<T: FromStr + Drop>(word: &str) -> Option<Option<T>>
+where
+    T::Err: Drop,
+{
+    match word {
+        "-" => Some(None),
+        _ => Some(Some(word.parse().ok()?)),
     }
 }
 
 fn read_row(words: &mut SplitWhitespace<'_>) -> Option<[Cell; 4]> {
-    let mut cells = [Cell::Absent; 4];
-    for i in 0..4 {
-        cells[i] = read_cell(words.next()?)?;
+    let mut cells = [None; 4];
+    for cell in cells.iter_mut() {
+        *cell = read_value(words.next()?)?;
     }
     Some(cells)
 }
 
 fn read_number(words: &mut SplitWhitespace<'_>) -> Option<u16> {
-    words.next()?.parse::<u16>().ok()
+    words.next()?.parse().ok()
 }
 
 fn read_letter(name: &str) -> Option<Letter> {
     match name.as_bytes() {
-        [byte] => letter_of(*byte),
+        [byte] => Letter::try_from(*byte).ok(),
         _ => None,
     }
 }
 
 fn read_column(words: &mut SplitWhitespace<'_>) -> Option<Column> {
-    match words.next()?.parse::<u8>() {
-        Ok(number) => column_of(number),
-        Err(_) => None,
-    }
+    let number: u8 = words.next()?.parse().ok()?;
+    Column::try_from(number).ok()
 }
 
 // The figure that a line asks for: its letter, its column and its reaches.
@@ -91,24 +73,22 @@ fn caught(
 ) -> Result<Vec<Outcome>, AllocError>
     requires { length rows.now ≤ 4096 }
 {
-    let reach = figure.before as usize + figure.after as usize;
+    let reach = usize::from(figure.before) + usize::from(figure.after);
     let mut all = Vec::new(heap);
     let mut carry = figure.start();
     let mut done: u32 = 0;
     let mut first: usize = 0;
     let mut came: usize = 0;
+    // By places and not by chunks: a batch is worked out over rows kept from before it, so its slice begins in front of it.
     while came < rows.len() {
         came = (came + BATCH).min(rows.len());
         let due = due_rows(came as u32, came == rows.len(), figure.after);
-        let mut results = vec![in heap; Outcome::Missing; due.saturating_sub(done) as usize]?;
-        carry = catch_up(
-            figure,
-            carry,
-            &rows[first..came],
-            first as u32,
-            done,
-            &mut results,
-        );
+        let mut results = vec![in heap; None; due.saturating_sub(done) as usize]?;
+        let kept = KeptRows {
+            first: first as u32,
+            rows: &rows[first..came],
+        };
+        carry = catch_up(figure, carry, &kept, done, &mut results);
         all.extend_from_slice(&results)?;
         done = due;
         first = came.saturating_sub(reach);
@@ -124,10 +104,7 @@ fn agrees(
     rank: u32,
     expected: Outcome,
 ) -> bool {
-    match kept.get(rank as usize) {
-        Some(result) => same(*result, expected) && same(letter_at(figure, rows, rank), expected),
-        None => false,
-    }
+    kept.get(rank as usize) == Some(&expected) && letter_at(figure, rows, rank) == expected
 }
 
 // How many results a line has, from the rank `from` on, if all of them agree.
@@ -140,8 +117,8 @@ fn compare(
 ) -> Option<u32> {
     let mut count: u32 = 0;
     for word in words {
-        let rank = count.saturating_add(from as u32);
-        if !agrees(figure, rows, kept, rank, read_result(word)?) {
+        let rank = count.saturating_add(u32::from(from));
+        if !agrees(figure, rows, kept, rank, read_value(word)?) {
             return None;
         }
         count = count.saturating_add(1);

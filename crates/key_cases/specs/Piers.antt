@@ -1,5 +1,5 @@
 -- Berths that are equal where their piers are.
-use Rattle.std.specs.Prelude.{ℕ, Bool, cond, List, ◌++◌, length, Some, None, Option, ◌==◌}
+use Rattle.std.specs.Prelude.{ℕ, Bool, if◌then◌else◌, List, ◌++◌, length, Some, None, Option, ◌==◌}
 use Rattle.std.specs.declared.cmp.Ordering.{Ordering}
 use Rattle.raw_bytes.specs.Numbers.{little_endian, two_bytes}
 use Rattle.key_cases.specs.declared.pier.Pier.{Pier}
@@ -15,4 +15,4 @@ abbrev pub pier_bytes : Pier → List ℕ
 pier_bytes x = two_bytes x.pier ++ two_bytes x.berth
 
 abbrev pub pier_from : List ℕ → Option Pier
-pier_from bytes = cond (length bytes == 4) (Some (record { pier = little_endian 2 bytes 0; berth = little_endian 2 bytes 2 })) None
+pier_from bytes = if length bytes == 4 then Some (record { pier = little_endian 2 bytes 0; berth = little_endian 2 bytes 2 }) else None

@@ -1,25 +1,19 @@
 use crate::pier::Pier;
-use call_signs::letter::Letter;
+use call_signs::letter::{Letter, NoLetter};
 use call_signs::sign::CallSign;
 use keys::berth::Berth;
 use keys::key::{JournalKey, Key, OrderedKey};
 use keys::route::RouteBerth;
 use keys::search::find;
+use raw_bytes::writer::Writer;
 use std::cmp::Ordering;
 use std::process::Abort;
 use std::test::Fail;
 
 // Whether the first bytes of an array are these, and the rest untouched.
 fn begins(out: &[u8; 16], end: usize, text: &[u8]) -> bool {
-    let mut i = 0;
-    for byte in out {
-        let wanted = if i < text.len() { text[i] } else { b'#' };
-        if *byte != wanted {
-            return false;
-        }
-        i = i.saturating_add(1);
-    }
-    end == text.len()
+    let wanted = text.iter().chain(&[b'#'; 16]);
+    end == text.len() && out.iter().zip(wanted).all(|(byte, wanted)| byte == wanted)
 }
 
 // Checks that a key is written as these bytes and printed as this text, and that the bytes are
@@ -31,36 +25,43 @@ fn forms<K: JournalKey + Drop>(
     text: &[u8],
 ) -> Result<(), Fail> {
     let mut out = [b'#'; 16];
-    let end = key.write(&mut out, 0);
+    let mut writer = Writer {
+        out: &mut out,
+        at: 0,
+    };
+    key.write(&mut writer);
+    let end = writer.at;
     assert!(rt; begins(&out, end, bytes));
     let mut line = [b'#'; 16];
-    let end = key.show(&mut line, 0);
+    let mut writer = Writer {
+        out: &mut line,
+        at: 0,
+    };
+    key.show(&mut writer);
+    let end = writer.at;
     assert!(rt; begins(&line, end, text));
     assert_eq!(rt; K::width(), bytes.len());
     let Some(again) = K::read(bytes) else {
         return Err(Fail::new("the written form is not read"));
     };
-    assert!(rt; again.equals(&key));
+    assert!(rt; again == key);
     assert_eq!(rt; again.hash(), key.hash());
     Ok(())
 }
 
 // Checks that the first key is below the second, whose part is not below the first's.
 fn rises<K: OrderedKey + Drop>(rt: &impl Abort, x: K, y: K, parts: Ordering) {
-    assert_eq!(rt; x.compare(&y), Ordering::Less);
-    assert_eq!(rt; y.compare(&x), Ordering::Greater);
-    assert_eq!(rt; x.compare(&x), Ordering::Equal);
+    assert_eq!(rt; x.cmp(&y), Ordering::Less);
+    assert_eq!(rt; y.cmp(&x), Ordering::Greater);
+    assert_eq!(rt; x.cmp(&x), Ordering::Equal);
     assert_eq!(rt; x.compare_parts(&y), parts);
     assert_eq!(rt; y.compare_parts(&x), parts.reverse());
-    assert!(rt; !x.equals(&y));
-    assert!(rt; y.equals(&y));
+    assert!(rt; x != y);
+    assert!(rt; y == y);
 }
 
 fn sign(text: &[u8]) -> Result<CallSign, Fail> {
-    match CallSign::from_bytes(text) {
-        Some(sign) => Ok(sign),
-        None => Err(Fail::new("no call sign")),
-    }
+    CallSign::try_from(text).map_err(|_| Fail::new("no call sign"))
 }
 
 #[test]
@@ -158,13 +159,13 @@ fn every_letter_is_one(rt: HostRuntime) {
     let letters = b" 0123456789ABCDEFGHIJKLMNOPQRSTUVWXYZ";
     let mut found = 0u16;
     for byte in 0..=255u8 {
-        match Letter::read(byte) {
-            Some(letter) => {
-                assert_eq!(rt; letter.byte(), byte);
+        match Letter::try_from(byte) {
+            Ok(letter) => {
+                assert_eq!(rt; u8::from(letter), byte);
                 assert!(rt; letters.contains(&byte));
                 found = found.saturating_add(1);
             }
-            None => assert!(rt; !letters.contains(&byte)),
+            Err(NoLetter) => assert!(rt; !letters.contains(&byte)),
         }
     }
     assert_eq!(rt; found, 37);
@@ -187,10 +188,10 @@ fn other_bytes_are_no_sign(rt: HostRuntime) {
 
 #[test]
 fn signs_are_made_of_one_to_eight_letters(rt: HostRuntime) -> Result<(), Fail> {
-    assert!(rt; CallSign::from_bytes(b"").is_none());
-    assert!(rt; CallSign::from_bytes(b"ABCDEFGHI").is_none());
-    assert!(rt; CallSign::from_bytes(b"AB-C").is_none());
-    let mut made = CallSign::One(Letter::A);
+    assert!(rt; CallSign::try_from(b"".as_slice()).is_err());
+    assert!(rt; CallSign::try_from(b"ABCDEFGHI".as_slice()).is_err());
+    assert!(rt; CallSign::try_from(b"AB-C".as_slice()).is_err());
+    let mut made = CallSign::from(Letter::A);
     let mut length = 1u8;
     for _ in 0..16 {
         if let Some(longer) = made.add(Letter::Z) {
@@ -199,7 +200,7 @@ fn signs_are_made_of_one_to_eight_letters(rt: HostRuntime) -> Result<(), Fail> {
         }
     }
     assert_eq!(rt; length, 8);
-    assert!(rt; made.equals(&sign(b"AZZZZZZZ")?));
+    assert!(rt; made == sign(b"AZZZZZZZ")?);
     Ok(())
 }
 
@@ -234,9 +235,9 @@ fn the_first_equal_key_is_found(rt: HostRuntime) -> Result<(), Fail> {
 fn equal_keys_need_not_be_identical(rt: HostRuntime) {
     let x = pier(1, 2);
     let y = pier(1, 9);
-    assert!(rt; x.equals(&y));
+    assert!(rt; x == y);
     assert_eq!(rt; x.hash(), y.hash());
-    assert_eq!(rt; x.compare(&y), Ordering::Equal);
+    assert_eq!(rt; x.cmp(&y), Ordering::Equal);
     assert_eq!(rt; x.compare_parts(&y), Ordering::Equal);
     rises(&rt, y, pier(2, 0), Ordering::Less);
 }

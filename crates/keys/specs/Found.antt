@@ -1,14 +1,10 @@
 -- Where a key stands among held keys.
-use Rattle.std.specs.Prelude.{◌≡◌, ℕ, ◌+◌, Bool, true, false, cond, List, [], ◌∷◌, ◌++◌, length, Some, None, Option}
-use Rattle.std.specs.List.{AllByRecursion}
+use Rattle.std.specs.Prelude.{◌≡◌, ℕ, Bool, true, false, List, ◌∷◌, ◌++◌, length, Some, None, Option}
+use Rattle.std.specs.List.{AllByRecursion, position}
 
--- the first place, counted on from n, whose key is the same; or none
-abbrev pub first_same_from : {K : Type 0} → (K → K → Bool) → K → ℕ → List K → Option ℕ
-first_same_from same key n [] = None
-first_same_from same key n (x ∷ xs) = cond (same x key) (Some n) (first_same_from same key (n + 1) xs)
-
+-- the first place whose key is the same; or none
 abbrev pub first_same : {K : Type 0} → (K → K → Bool) → K → List K → Option ℕ
-first_same same key held = first_same_from same key 0 held
+first_same same key held = position (λ x. same x key) held
 
 -- in other words: none where no held key is the same; else the place of one that is, behind none that is
 abbrev pub FirstSame : {K : Type 0} → (K → K → Bool) → K → List K → Option ℕ → Type 0

@@ -4,6 +4,7 @@ use Rattle.std.proofs.Common.{sym, ◌∙◌, arith}
 use Rattle.std.specs.List.{AllByRecursion}
 use Rattle.std.proofs.lemmas.List.{drop_all}
 use Rattle.std.proofs.lemmas.Bool.{eqb-true}
+use Rattle.std.proofs.lemmas.Option.{none-some}
 use Rattle.raw_bytes.specs.Numbers.{little_endian, two_bytes}
 use Rattle.raw_bytes.proofs.Reading.{written_back}
 use Rattle.keys.specs.Berths.{berth_from}
@@ -11,12 +12,9 @@ use Rattle.keys.specs.Routes.{route_berth_bytes, route_berth_from}
 use Rattle.keys.specs.declared.berth.Berth.{Berth}
 use Rattle.keys.specs.declared.route.RouteBerth.{RouteBerth}
 
-pub none_some : {X : Type 0} {x : X} → ◌≡◌ {A = Option X} None (Some x) → ⊥
-none_some e = let z : ◌≡◌ {A = ℕ} 0 1 = cc in omega arith
-
 pub cond_some : {X : Type 0} (t : Bool) (o : Option X) (x : X) → cond t o None ≡ Some x → (t ≡ true) × (o ≡ Some x)
 cond_some true o x h = (refl, h)
-cond_some false o x h = absurd (none_some h)
+cond_some false o x h = absurd (none-some x h)
 
 pub berth_only_written : (bytes : List ℕ) (x : Berth) → AllByRecursion (λ b. b < 256) bytes → berth_from bytes ≡ Some x → two_bytes x.0 ≡ bytes
 berth_only_written bytes x fit h =

@@ -1,5 +1,5 @@
 -- A berth on a route as a key: ordered by the route, then by the berth; the sorted part is the route.
-use Rattle.std.specs.Prelude.{ℕ, Bool, cond, ◌&&◌, List, ◌∷◌, ◌++◌, length, Some, None, decimal, Option, ◌==◌}
+use Rattle.std.specs.Prelude.{ℕ, Bool, if◌then◌else◌, ◌&&◌, List, ◌∷◌, ◌++◌, length, Some, None, decimal, Option, ◌==◌}
 use Rattle.std.specs.declared.cmp.Ordering.{Ordering}
 use Rattle.std.specs.Ordering.{ordering_then, nat_cmp}
 use Rattle.raw_bytes.specs.Numbers.{little_endian, two_bytes}
@@ -19,7 +19,7 @@ route_berth_bytes x = two_bytes x.route ++ two_bytes x.berth
 
 -- four bytes are read as a route and a berth, and no others
 abbrev pub route_berth_from : List ℕ → Option RouteBerth
-route_berth_from bytes = cond (length bytes == 4) (Some (record { route = little_endian 2 bytes 0; berth = little_endian 2 bytes 2 })) None
+route_berth_from bytes = if length bytes == 4 then Some (record { route = little_endian 2 bytes 0; berth = little_endian 2 bytes 2 }) else None
 
 -- `1/4`
 abbrev pub shown_route_berth : RouteBerth → List ℕ

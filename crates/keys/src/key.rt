@@ -1,20 +1,17 @@
 // What it takes to be a key. Code above a key kind sees these laws and nothing more: in particular
 // not that equal keys are identical.
-ghost use Rattle.std.specs.Prelude.{◌≡◌, ℕ, ◌<◌, ◌≤◌, Bool, true, List, length, Some, Option as Maybe};
+ghost use Rattle.std.specs.Prelude.{◌≡◌, ℕ, ◌<◌, ◌≤◌, true, List, length, Some, Option as Maybe};
 ghost use Rattle.std.specs.declared.cmp.Ordering.TheVariants.{Equal};
 ghost use Rattle.std.specs.declared.cmp.Ordering.{Ordering as Rank};
-ghost use Rattle.std.specs.Ordering.{is_eq};
 ghost use Rattle.std.specs.List.{AllByRecursion};
-ghost use Rattle.raw_bytes.specs.Writing.{Wrote};
-ghost use Rattle.keys.specs.Laws.{Equality, Ranking};
+ghost use Rattle.std.specs.Cmp.{IsTotalOrder};
+ghost use Rattle.raw_bytes.specs.Writing.{Written};
 
+use raw_bytes::writer::Writer;
 use std::cmp::Ordering;
 
-// A key kind.
-pub trait Key: Copy {
-    // whether two keys are equal
-    ghost same: { Self → Self → Bool };
-
+// A key kind: an equality, and a hash and a written form that go with it.
+pub trait Key: Copy + Eq {
     // a 64-bit hash; which one is open, but for the law that equal keys have equal hashes
     ghost hashed: { Self → ℕ };
 
@@ -24,23 +21,19 @@ pub trait Key: Copy {
     // the key that bytes are read as, if they are read as one
     ghost parsed: { List ℕ → Maybe Self };
 
-    fn equals(&self, other: &Self) -> bool
-        ensures { result ≡ same self.now other.now };
-
     fn hash(&self) -> u64
         ensures { result ≡ hashed self.now };
 
-    // Writes the written form from a place on, and answers the place after it.
-    fn write(&self, out: &mut [u8], at: usize) -> usize
-        ensures { Wrote out.old at (written self.now) out.new result };
+    // Writes the written form.
+    fn write(&self, writer: &mut Writer<'_>)
+        ensures { Written writer.old (written self.now) writer.new };
 
     // The key that these bytes, all of them, are the written form of.
+    // No `TryFrom<&[u8]>`: the bound would be owed at every lifetime, and each kind's line is the same.
     fn read(bytes: &[u8]) -> Option<Self>
         ensures { result ≡ parsed bytes.now };
 
-    ghost equality: { Equality same };
-
-    ghost agree: { (x y : Self) → same x y ≡ true → hashed x ≡ hashed y };
+    ghost agree: { (x y : Self) → Self.eq x y ≡ true → hashed x ≡ hashed y };
 
     ghost short: { (x : Self) → length (written x) ≤ 9 };
 
@@ -49,26 +42,16 @@ pub trait Key: Copy {
 
 // A key kind with two comparisons: of whole keys, whose ties are exactly the equal keys, and of
 // their sorted parts, in which equal keys tie.
-pub trait OrderedKey: Key {
-    ghost order: { Self → Self → Rank };
-
+pub trait OrderedKey: Key + Ord {
     ghost parts: { Self → Self → Rank };
-
-    fn compare(&self, other: &Self) -> Ordering
-        ensures order { result ≡ order self.now other.now }
-        ensures ties { is_eq result ≡ Self.Key.same self.now other.now };
 
     fn compare_parts(&self, other: &Self) -> Ordering
         ensures parts { result ≡ parts self.now other.now }
-        ensures tied { Self.Key.same self.now other.now ≡ true → result ≡ Equal };
+        ensures tied { Self.eq self.now other.now ≡ true → result ≡ Equal };
 
-    ghost ranked: { Ranking order };
+    ghost sorted: { IsTotalOrder parts };
 
-    ghost sorted: { Ranking parts };
-
-    ghost ties: { (x y : Self) → is_eq (order x y) ≡ Self.Key.same x y };
-
-    ghost tied: { (x y : Self) → Self.Key.same x y ≡ true → parts x y ≡ Equal };
+    ghost tied: { (x y : Self) → Self.eq x y ≡ true → parts x y ≡ Equal };
 }
 
 // A key kind of the journal: its written forms have one width, no other bytes are read as a key,
@@ -82,9 +65,10 @@ pub trait JournalKey: OrderedKey {
     fn width() -> usize
         ensures { result ≡ width };
 
-    // Writes the printed form from a place on, and answers the place after it.
-    fn show(&self, out: &mut [u8], at: usize) -> usize
-        ensures { Wrote out.old at (shown self.now) out.new result };
+    // Writes the printed form.
+    // No `Display`: its text is promised only where `fmt` answers `Ok`, and this one is written or counted always.
+    fn show(&self, writer: &mut Writer<'_>)
+        ensures { Written writer.old (shown self.now) writer.new };
 
     ghost narrow: { width ≤ 9 };
 

@@ -1,33 +1,38 @@
 // Berths on a route.
 ghost use Rattle.std.specs.Prelude.{◌≡◌, ℕ, ◌+◌, ◌*◌};
 ghost use Rattle.keys.specs.Routes.{same_route_berth, route_order, route_berth_order, route_berth_bytes, route_berth_from, shown_route_berth};
-ghost use Rattle.std.specs.Cmp.{nat_eq_equiv, and_equiv, on_equiv, nat_cmp_total, then_total, on_total};
-ghost use Rattle.keys.specs.Pulled.{pulled_equality, pulled_ranking};
+ghost use Rattle.std.specs.Cmp.{nat_cmp_total, on_total};
 ghost use Rattle.std.proofs.Common.{rules};
 ghost use Rattle.keys.specs.ReadBack.{route_berth_only_written};
 
 use crate::key::{JournalKey, Key, OrderedKey};
 use raw_bytes::numbers::u16_at;
-use raw_bytes::writer::{put, put_number, put_u16};
+use raw_bytes::writer::Writer;
 use std::cmp::Ordering;
 
 // A berth on a route: the route comes first in order, and is the sorted part.
-#[derive(Clone, Copy)]
+#[derive(Clone, Copy, Debug, PartialEq, Eq, PartialOrd, Ord)]
 pub struct RouteBerth {
     pub route: u16,
     pub berth: u16,
 }
 
-impl Key for RouteBerth {
-    ghost same = { same_route_berth };
+impl RouteBerth {
+    // Whether two are equal, and which comes first: by the route, then by the berth.
+    pub fn compared(&self, other: &Self) -> (bool, Ordering)
+        ensures equal { result.0 ≡ same_route_berth self.now other.now }
+        ensures order { result.1 ≡ route_berth_order self.now other.now }
+    {
+        (self == other, self.cmp(other))
+    }
+}
 
+impl Key for RouteBerth {
     ghost hashed = { λ x. 65536 * x.route + x.berth };
 
     ghost written = { route_berth_bytes };
 
     ghost parsed = { route_berth_from };
-
-    ghost equality = { pulled_equality {E = ℕ × ℕ} (λ x. (x.route, x.berth)) (and_equiv (on_equiv (λ p. p.0) nat_eq_equiv) (on_equiv (λ p. p.1) nat_eq_equiv)) };
 
     ghost agree = { Prim.search rules };
 
@@ -35,17 +40,13 @@ impl Key for RouteBerth {
 
     ghost again = { Prim.search rules };
 
-    fn equals(&self, other: &Self) -> bool {
-        self.route == other.route && self.berth == other.berth
-    }
-
     fn hash(&self) -> u64 {
         65536 * u64::from(self.route) + u64::from(self.berth)
     }
 
-    fn write(&self, out: &mut [u8], at: usize) -> usize {
-        let next = put_u16(out, at, self.route);
-        put_u16(out, next, self.berth)
+    fn write(&self, writer: &mut Writer<'_>) {
+        writer.put_u16(self.route);
+        writer.put_u16(self.berth);
     }
 
     fn read(bytes: &[u8]) -> Option<Self> {
@@ -61,21 +62,11 @@ impl Key for RouteBerth {
 }
 
 impl OrderedKey for RouteBerth {
-    ghost order = { route_berth_order };
-
     ghost parts = { route_order };
 
-    ghost ranked = { pulled_ranking {E = ℕ × ℕ} (λ x. (x.route, x.berth)) (then_total (on_total (λ p. p.0) nat_cmp_total) (on_total (λ p. p.1) nat_cmp_total)) };
-
-    ghost sorted = { pulled_ranking (λ x. x.route) nat_cmp_total };
-
-    ghost ties = { Prim.search rules };
+    ghost sorted = { on_total (λ x. x.route) nat_cmp_total };
 
     ghost tied = { Prim.search rules };
-
-    fn compare(&self, other: &Self) -> Ordering {
-        self.compare_parts(other).then(self.berth.cmp(&other.berth))
-    }
 
     fn compare_parts(&self, other: &Self) -> Ordering {
         self.route.cmp(&other.route)
@@ -97,9 +88,9 @@ impl JournalKey for RouteBerth {
         4
     }
 
-    fn show(&self, out: &mut [u8], at: usize) -> usize {
-        let slash = put_number(out, at, u64::from(self.route));
-        let berth = put(out, slash, b'/');
-        put_number(out, berth, u64::from(self.berth))
+    fn show(&self, writer: &mut Writer<'_>) {
+        writer.put_number(self.route);
+        writer.put(b'/');
+        writer.put_number(self.berth);
     }
 }

@@ -6,13 +6,8 @@ use crate::key::Key;
 
 // The place of the first held key that equals the key, or none where no held key does.
 pub fn find<K: Key>(held: &[K], key: &K) -> Option<usize>
-    ensures place { result ≡ first_same K.same key.now held.now }
-    ensures first { FirstSame K.same key.now held.now result }
+    ensures place { result ≡ first_same K.eq key.now held.now }
+    ensures first { FirstSame K.eq key.now held.now result }
 {
-    for (i, other) in held.iter().enumerate() {
-        if other.equals(key) {
-            return Some(i);
-        }
-    }
-    None
+    held.iter().position(|other| other == key)
 }

@@ -1,5 +1,5 @@
 -- Little-endian numbers in bytes: the lower byte stands first. A byte past the end counts as 0.
-use Rattle.std.specs.Prelude.{◌≡◌, ℕ, zero, suc, ◌+◌, ◌-◌, ◌*◌, ◌/◌, ◌%◌, ◌<◌, ◌≤◌, cond, List, [], ◌∷◌, ◌++◌, length, drop, ℤ, pos, negsuc, nat_lt, slice_index}
+use Rattle.std.specs.Prelude.{◌≡◌, ℕ, zero, suc, ◌+◌, ◌-◌, ◌*◌, ◌/◌, ◌%◌, ◌<◌, ◌≤◌, if◌then◌else◌, List, [], ◌∷◌, ◌++◌, length, drop, ℤ, pos, negsuc, nat_lt, slice_index}
 use Rattle.std.specs.List.{AllByRecursion}
 
 -- the number that the bytes from a place on spell, so many of them
@@ -9,7 +9,7 @@ little_endian (suc width) bytes at = slice_index bytes at + 256 * little_endian 
 
 -- the number whose two's complement of 32 bits is n: from 2^31 on it is n less 2^32
 abbrev pub signed32 : ℕ → ℤ
-signed32 n = cond (nat_lt n 2147483648) (pos n) (negsuc (4294967295 - n))
+signed32 n = if nat_lt n 2147483648 then pos n else negsuc (4294967295 - n)
 
 -- a 16-bit number as two bytes
 abbrev pub two_bytes : ℕ → List ℕ

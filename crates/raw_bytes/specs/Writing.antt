@@ -1,5 +1,6 @@
 -- A text written into bytes from a place on.
 use Rattle.std.specs.Prelude.{◌≡◌, ℕ, ◌+◌, ◌-◌, ◌^◌, ◌<◌, ◌≤◌, min, List, ◌++◌, length, take, drop, slice_index_or}
+use Rattle.raw_bytes.specs.declared.writer.Writer.{Writer}
 
 -- the bytes once a text stands in them from a place on: it is cut where the bytes end, and every
 -- other place is as it was
@@ -14,6 +15,11 @@ further at n = min (at + n) (2 ^ 64 - 1)
 pub record Wrote (before : List ℕ) (at : ℕ) (text : List ℕ) (after : List ℕ) (next : ℕ) : Type 0 where
   pub bytes : after ≡ overlaid before at text
   pub place : next ≡ further at (length text)
+
+-- the same of a writer, which still writes to the same bytes
+pub record Written (before : Writer) (text : List ℕ) (after : Writer) : Type 0 where
+  pub same_bytes : after.out.ghost_name ≡ before.out.ghost_name
+  pub wrote : Wrote before.out.now before.at text after.out.now after.at
 
 -- what the writer's word means, for bytes of any slice
 pub record WritingLaws : Type 0 where

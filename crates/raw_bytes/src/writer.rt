@@ -1,63 +1,51 @@
-// The writer of lines into a caller's bytes. Each function writes a text from a place on and
-// answers the place after it. What would pass the end of the bytes is not written but counted, so
-// one pass over no bytes at all tells how long a text is. Places stop at the largest number.
-ghost use Rattle.std.specs.Prelude.{◌≡◌, [], ◌∷◌, decimal};
-ghost use Rattle.std.specs.Fmt.{signed_decimal};
+// The writer of lines into a caller's bytes. Each method writes a text from the writer's place on,
+// and the writer comes to the place after it. What would pass the end of the bytes is not written but
+// counted, so one pass over no bytes at all tells how long a text is. Places stop at the largest number.
+ghost use Rattle.std.specs.Prelude.{◌≡◌, [], ◌∷◌};
 ghost use Rattle.raw_bytes.specs.Numbers.{two_bytes, NumberLaws};
-ghost use Rattle.raw_bytes.specs.Writing.{Wrote, WritingLaws};
+ghost use Rattle.raw_bytes.specs.Writing.{Written, WritingLaws};
 
-// Writes one byte.
-pub fn put(out: &mut [u8], at: usize, byte: u8) -> usize
-    ensures { Wrote out.old at (byte ∷ []) out.new result }
-{
-    if at < out.len() {
-        out[at] = byte;
+use itoa::{Buffer, Integer};
+
+// The bytes that are written to, and the place that has been come to.
+#[derive(Drop)]
+pub struct Writer<'a> {
+    pub out: &'a mut [u8],
+    pub at: usize,
+}
+
+impl Writer<'_> {
+    // Writes one byte.
+    pub fn put(&mut self, byte: u8)
+        ensures { Written self.old (byte ∷ []) self.new }
+    {
+        if self.at < self.out.len() {
+            self.out[self.at] = byte;
+        }
+        self.at = self.at.saturating_add(1);
     }
-    at.saturating_add(1)
-}
 
-// Writes a text.
-pub fn put_text(out: &mut [u8], at: usize, text: &[u8]) -> usize
-    ensures { Wrote out.old at text.now out.new result }
-{
-    let mut next = at;
-    for byte in text {
-        next = put(out, next, *byte);
+    // Writes a text.
+    pub fn put_text(&mut self, text: &[u8])
+        ensures { Written self.old text.now self.new }
+    {
+        for byte in text {
+            self.put(*byte);
+        }
     }
-    next
-}
 
-// Writes a number as two bytes, the lower first.
-pub fn put_u16(out: &mut [u8], at: usize, n: u16) -> usize
-    ensures { Wrote out.old at (two_bytes n) out.new result }
-{
-    let next = put(out, at, (n % 256) as u8);
-    put(out, next, (n / 256) as u8)
-}
-
-// Writes a number in base ten, with no leading zero.
-pub fn put_number(out: &mut [u8], at: usize, n: u64) -> usize
-    ensures { Wrote out.old at (decimal n) out.new result }
-{
-    let digit = 48 + (n % 10) as u8;
-    if n < 10 {
-        put(out, at, digit)
-    } else {
-        let next = put_number(out, at, n / 10);
-        put(out, next, digit)
+    // Writes a number as two bytes, the lower first.
+    pub fn put_u16(&mut self, n: u16)
+        ensures { Written self.old (two_bytes n) self.new }
+    {
+        self.put_text(&n.to_le_bytes());
     }
-}
 
-// Writes a signed number in base ten, with a minus sign before it where it is below 0.
-pub fn put_signed(out: &mut [u8], at: usize, n: i64) -> usize
-    ensures { Wrote out.old at (signed_decimal n) out.new result }
-{
-    let size = n.unsigned_abs();
-    if n < 0 {
-        let next = put(out, at, b'-');
-        put_number(out, next, size)
-    } else {
-        put_number(out, at, size)
+    // Writes a number in base ten, with no leading zero; before it a minus sign where it is below 0.
+    pub fn put_number<I: Integer>(&mut self, n: I)
+        ensures { Written self.old (I.text n) self.new }
+    {
+        self.put_text(Buffer::new().format(n).as_bytes());
     }
 }
 

@@ -1,5 +1,5 @@
 // One batch of at most 8 rows through a searcher.
-use figures::cells::{Cell, Column};
+use figures::cells::Column;
 use figures::letters::{Letter, LetterFigure};
 use figures::set::FigureSet;
 use keys::key::{Key, OrderedKey};
@@ -10,7 +10,7 @@ use searchers::search::PartitionSearcher;
 pub(crate) fn row<K>(key: K) -> Row<K> {
     Row {
         key,
-        cells: [Cell::Absent; 4],
+        cells: [None; 4],
     }
 }
 
@@ -26,13 +26,12 @@ pub(crate) fn reaching(after: u16) -> LetterFigure {
 
 // How many of the first n rows are in a group.
 fn count_in(groups: &Groups, group: usize, n: usize) -> u32 {
-    let mut count: u32 = 0;
-    for i in 0..n.min(256) {
-        if groups.ids[i] as usize == group {
-            count = count.saturating_add(1);
-        }
-    }
-    count
+    groups
+        .ids
+        .iter()
+        .take(n)
+        .filter(|id| usize::from(**id) == group)
+        .fold(0, |count: u32, _id| count.saturating_add(1))
 }
 
 // The held keys and the waiting rows of one batch of at most 8 rows.
@@ -51,8 +50,8 @@ impl<K: OrderedKey> Desk<K> {
     }
 
     fn hold(&mut self, place: usize, key: K, rows: u32) {
-        if place < 8 {
-            self.held[place] = Some(Held {
+        if let Some(held) = self.held.get_mut(place) {
+            *held = Some(Held {
                 key,
                 rows,
                 ended: false,
@@ -62,8 +61,8 @@ impl<K: OrderedKey> Desk<K> {
     }
 
     fn wait(&mut self, at: usize, row: Row<K>, place: usize, rank: u32) {
-        if at < 8 {
-            self.waiting[at] = Some(Waiting {
+        if let Some(waiting) = self.waiting.get_mut(at) {
+            *waiting = Some(Waiting {
                 row,
                 place,
                 rank,
@@ -73,12 +72,10 @@ impl<K: OrderedKey> Desk<K> {
     }
 
     pub(crate) fn admit(&mut self, rows: &[Row<K>], groups: &Groups) {
-        for (i, row) in rows.iter().enumerate() {
-            if i < 256 {
-                let place = groups.ids[i] as usize;
-                self.wait(i, *row, place, count_in(groups, place, i));
-                self.hold(place, row.key, count_in(groups, place, 256));
-            }
+        for (i, (row, id)) in rows.iter().zip(groups.ids.iter()).enumerate() {
+            let place = usize::from(*id);
+            self.wait(i, *row, place, count_in(groups, place, i));
+            self.hold(place, row.key, count_in(groups, place, 256));
         }
     }
 
@@ -94,11 +91,7 @@ impl<K: OrderedKey> Desk<K> {
         }
         let groups = searcher.evaluate_partition_batches(rows);
         self.admit(rows, &groups);
-        let last = if rows.len() > 0 {
-            Some(rows[rows.len() - 1].key)
-        } else {
-            None
-        };
+        let last = rows.last().map(|row| row.key);
         searcher.mark_partition_end(&mut self.held, &last);
         Ok(searcher.calculate_n_out_row(&self.waiting, &self.held, set))
     }

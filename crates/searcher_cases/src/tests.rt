@@ -3,7 +3,6 @@ use figures::set::FigureSet;
 use key_cases::pier::Pier;
 use keys::berth::Berth;
 use keys::route::RouteBerth;
-use searchers::groups::Groups;
 use searchers::modes::LinearKind;
 use searchers::rows::Row;
 use searchers::search::{LinearSearch, PartitionSearcher, SortedSearch};
@@ -15,18 +14,10 @@ fn at(route: u16, berth: u16) -> Row<RouteBerth> {
 // A run of rows with the keys of `from` on, `step` apart.
 fn berths(from: u16, step: u16) -> [Row<Berth>; 256] {
     let mut rows = [row(Berth(0)); 256];
-    for i in 0..256 {
-        rows[i] = row(Berth(from.wrapping_add(step.wrapping_mul(i as u16))));
+    for (place, n) in rows.iter_mut().zip(0..256u16) {
+        *place = row(Berth(from.wrapping_add(step.wrapping_mul(n))));
     }
     rows
-}
-
-fn same_groups(x: &Groups, y: &Groups) -> bool {
-    let mut same = x.count == y.count;
-    for i in 0..256 {
-        same = same && x.ids[i] == y.ids[i] && x.firsts[i] == y.firsts[i];
-    }
-    same
 }
 
 #[test]
@@ -98,7 +89,7 @@ fn empty_batch(rt: HostRuntime) {
     let linear = LinearSearch::new(LinearKind::Linear).evaluate_partition_batches(&rows);
     assert_eq!(rt; sorted.count, 0);
     assert_eq!(rt; sorted.ids[0], 256);
-    assert!(rt; same_groups(&sorted, &linear));
+    assert_eq!(rt; sorted, linear);
 }
 
 #[test]
@@ -108,7 +99,7 @@ fn one_key(rt: HostRuntime) {
     let linear = LinearSearch::new(LinearKind::PartlySorted).evaluate_partition_batches(&rows);
     assert_eq!(rt; sorted.count, 1);
     assert_eq!(rt; sorted.range(0), (0, 256));
-    assert!(rt; same_groups(&sorted, &linear));
+    assert_eq!(rt; sorted, linear);
 }
 
 #[test]
@@ -118,7 +109,7 @@ fn different_keys(rt: HostRuntime) {
     let linear = LinearSearch::new(LinearKind::Linear).evaluate_partition_batches(&rows);
     assert_eq!(rt; sorted.count, 256);
     assert_eq!(rt; sorted.range(255), (255, 256));
-    assert!(rt; same_groups(&sorted, &linear));
+    assert_eq!(rt; sorted, linear);
 }
 
 // Multiples of 512 begin their search at one slot.
@@ -160,7 +151,7 @@ fn unsorted_batch(rt: HostRuntime) {
     let sorted = SortedSearch.evaluate_partition_batches(&rows);
     let linear = LinearSearch::new(LinearKind::Linear).evaluate_partition_batches(&rows);
     assert_eq!(rt; sorted.count, 2);
-    assert!(rt; same_groups(&sorted, &linear));
+    assert_eq!(rt; sorted, linear);
 }
 
 #[test]

@@ -1,7 +1,7 @@
 -- One row more of a batch that is being grouped.
-use Rattle.std.proofs.Common.{◌≡◌, ℕ, ◌+◌, ◌<◌, ◌≤◌, Bool, true, false, cond, ltb, List, [], ◌∷◌, ◌++◌, length, get_or, take, drop, set, sym, refl, ap, ◌∙◌, arith}
-use Rattle.std.proofs.lemmas.List.{append_assoc, append-nil, take_more_set, at_drop_more, drop_all, length-take-le}
-use Rattle.searchers.specs.Groups.{place, noticed, group_ids, group_firsts, padded, grouped}
+use Rattle.std.proofs.Common.{◌≡◌, ℕ, ◌+◌, ◌<◌, ◌≤◌, Bool, true, false, cond, ltb, List, [], ◌∷◌, ◌++◌, length, get_or, drop, sym, refl, ap, ◌∙◌, arith}
+use Rattle.std.proofs.lemmas.List.{append_assoc, append-nil, at_drop_more, drop_all, length_push}
+use Rattle.searchers.specs.Groups.{place, noticed, group_ids, group_firsts, by_numbers, grouped}
 use Rattle.searchers.specs.Table.{picked}
 use Rattle.searchers.proofs.Places.{picked_push}
 
@@ -13,6 +13,10 @@ cond_append : (b : Bool) (ps R : List ℕ) (i : ℕ) → ps ++ cond b R (i ∷ R
 cond_append true ps R i = refl
 cond_append false ps R i = sym (append_assoc ps (i ∷ []) R)
 
+one_more : (b : Bool) (ps : List ℕ) (i : ℕ) → length ps ≤ i → length (cond b ps (ps ++ (i ∷ []))) ≤ i + 1
+one_more true ps i few = omega arith
+one_more false ps i few = omega (arith, length_push ps i)
+
 module _ {K : Type 0} (same : K → K → Bool) where
   pub picked_noticed : (ks : List K) (ps : List ℕ) (i r : ℕ) (d : K) → i < length ks → r ≡ place same (get_or ks i d) (picked ks ps) → length (picked ks ps) ≡ length ps → picked ks (cond (ltb r (length ps)) ps (ps ++ (i ∷ []))) ≡ noticed same (get_or ks i d) (picked ks ps)
   picked_noticed ks ps i r d l e long =
@@ -21,44 +25,36 @@ module _ {K : Type 0} (same : K → K → Bool) where
       in
       either (ltb r (length ps)) ∙ ap (λ b. cond b (picked ks ps) (picked ks ps ++ (get_or ks i d ∷ []))) (ap (λ n. ltb n (length ps)) e ∙ ap (ltb (place same (get_or ks i d) (picked ks ps))) (sym long))
 
-  pub ids_step : (ids : List ℕ) (ks seen : List K) (i r : ℕ) (d : K) → i < length ks → i < length ids → r ≡ place same (get_or ks i d) seen → take i ids ++ group_ids same seen (drop i ks) ≡ take (i + 1) (set ids i r) ++ group_ids same (noticed same (get_or ks i d) seen) (drop (i + 1) ks)
-  ids_step ids ks seen i r d l m e =
-      let R = group_ids same (noticed same (get_or ks i d) seen) (drop (i + 1) ks) in
-      ap (λ xs. take i ids ++ xs) (at_drop_more (group_ids same seen) ks i d l)
-      ∙ ap (λ n. take i ids ++ (n ∷ R)) (sym e)
-      ∙ sym (append_assoc (take i ids) (r ∷ []) R)
-      ∙ ap (λ xs. xs ++ R) (sym (take_more_set ids i r m))
+  -- what holds of a batch after i rows, whose different keys are seen: the groups of these rows and their first rows go on to the batch's
+  pub record Gathering (ks seen : List K) (ids firsts : List ℕ) (i : ℕ) : Type 0 where
+    pub placed : length ids ≡ i
+    pub few : length firsts ≤ i
+    pub has_ids : ids ++ group_ids same seen (drop i ks) ≡ group_ids same [] ks
+    pub has_firsts : firsts ++ group_firsts same seen i (drop i ks) ≡ group_firsts same [] 0 ks
 
-  pub firsts_step : (ps : List ℕ) (ks seen : List K) (i r : ℕ) (d : K) → i < length ks → r ≡ place same (get_or ks i d) seen → length seen ≡ length ps → ps ++ group_firsts same seen i (drop i ks) ≡ cond (ltb r (length ps)) ps (ps ++ (i ∷ [])) ++ group_firsts same (noticed same (get_or ks i d) seen) (i + 1) (drop (i + 1) ks)
-  firsts_step ps ks seen i r d l e long =
-      let R = group_firsts same (noticed same (get_or ks i d) seen) (i + 1) (drop (i + 1) ks) in
-      ap (λ xs. ps ++ xs) (at_drop_more (group_firsts same seen i) ks i d l)
-      ∙ ap (λ b. ps ++ cond b R (i ∷ R)) (sym (ap (λ n. ltb n (length ps)) e ∙ ap (ltb (place same (get_or ks i d) seen)) (sym long)))
-      ∙ cond_append (ltb r (length ps)) ps R i
+  pub nothing_gathered : (ks : List K) → Gathering ks [] [] [] 0
+  nothing_gathered ks = record { placed = refl; few = omega arith; has_ids = refl; has_firsts = refl }
 
-  -- what holds of a batch after i rows, whose different keys are seen
-  pub record Gathering (ks seen : List K) (ids firsts : List ℕ) (count i : ℕ) : Type 0 where
-    pub few : count ≤ i
-    pub wide : length firsts ≡ 256
-    pub wide_ids : length ids ≡ 256
-    pub laid : firsts ≡ padded (take count firsts)
-    pub laid_ids : ids ≡ padded (take i ids)
-    pub has_ids : take i ids ++ group_ids same seen (drop i ks) ≡ group_ids same [] ks
-    pub has_firsts : take count firsts ++ group_firsts same seen i (drop i ks) ≡ group_firsts same [] 0 ks
+  pub gathered_on : {ks seen : List K} {ids firsts : List ℕ} {i : ℕ} → Gathering ks seen ids firsts i → (r : ℕ) (d : K) → i < length ks → r ≡ place same (get_or ks i d) seen → length seen ≡ length firsts
+      → Gathering ks (noticed same (get_or ks i d) seen) (ids ++ (r ∷ [])) (cond (ltb r (length firsts)) firsts (firsts ++ (i ∷ []))) (i + 1)
+  gathered_on {ks} {seen} {ids} {firsts} {i} g r d l e long =
+      let key = get_or ks i d in
+      let ids_on = group_ids same (noticed same key seen) (drop (i + 1) ks) in
+      let firsts_on = group_firsts same (noticed same key seen) (i + 1) (drop (i + 1) ks) in
+      record {
+        placed = length_push ids r ∙ ap (λ n. n + 1) g.placed;
+        few = one_more (ltb r (length firsts)) firsts i g.few;
+        has_ids = append_assoc ids (r ∷ []) ids_on ∙ ap (λ n. ids ++ (n ∷ ids_on)) e ∙ ap (λ xs. ids ++ xs) (sym (at_drop_more (group_ids same seen) ks i d l)) ∙ g.has_ids;
+        has_firsts =
+            sym (cond_append (ltb r (length firsts)) firsts firsts_on i)
+            ∙ ap (λ b. firsts ++ cond b firsts_on (i ∷ firsts_on)) (ap (λ n. ltb n (length firsts)) e ∙ ap (ltb (place same key seen)) (sym long))
+            ∙ ap (λ xs. firsts ++ xs) (sym (at_drop_more (group_firsts same seen i) ks i d l))
+            ∙ g.has_firsts;
+      }
 
-  pub gathered : (ks seen : List K) (ids firsts : List ℕ) (count i : ℕ) → Gathering ks seen ids firsts count i → length ks ≤ i → i ≤ 256 → record { ids = ids; firsts = firsts; count = count } ≡ grouped same ks
-  gathered ks seen ids firsts count i g past short =
+  pub gathered : {ks seen : List K} {ids firsts : List ℕ} {i : ℕ} → Gathering ks seen ids firsts i → length ks ≤ i → by_numbers ids firsts ≡ grouped same ks
+  gathered {ks} {seen} {ids} {firsts} {i} g past =
       let rest = drop_all i ks past in
-      let all_ids : take i ids ≡ group_ids same [] ks = sym (append-nil (take i ids)) ∙ ap (λ x. take i ids ++ group_ids same seen x) (sym rest) ∙ g.has_ids in
-      let all_firsts : take count firsts ≡ group_firsts same [] 0 ks = sym (append-nil (take count firsts)) ∙ ap (λ x. take count firsts ++ group_firsts same seen i x) (sym rest) ∙ g.has_firsts in
-      let a : ids ≡ padded (group_ids same [] ks) = g.laid_ids ∙ ap padded all_ids in
-      let b : firsts ≡ padded (group_firsts same [] 0 ks) = g.laid ∙ ap padded all_firsts in
-      let n : count ≡ length (group_firsts same [] 0 ks) = sym (length-take-le count firsts (omega (arith, g.few, g.wide))) ∙ ap length all_firsts in
-      λ j. record { ids = a j; firsts = b j; count = n j }
-
-pub take_none : {X : Type 0} (xs : List X) (n : ℕ) → n ≡ 0 → take n xs ≡ []
-take_none xs n e = ap (λ m. take m xs) e
-
-pub picked_none : {K : Type 0} (ks : List K) → picked ks [] ≡ []
-picked_none [] = refl
-picked_none (k ∷ ks) = refl
+      let all_ids : ids ≡ group_ids same [] ks = sym (append-nil ids) ∙ ap (λ x. ids ++ group_ids same seen x) (sym rest) ∙ g.has_ids in
+      let all_firsts : firsts ≡ group_firsts same [] 0 ks = sym (append-nil firsts) ∙ ap (λ x. firsts ++ group_firsts same seen i x) (sym rest) ∙ g.has_firsts in
+      λ j. by_numbers (all_ids j) (all_firsts j)

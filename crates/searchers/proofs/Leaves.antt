@@ -1,46 +1,26 @@
 -- The scan over waiting rows.
-use Rattle.std.proofs.Common.{◌≡◌, ℕ, zero, suc, ◌+◌, ◌<◌, max, Bool, true, false, cond, ◌&&◌, ltb, ◌⊎◌, List, [], ◌∷◌, length, get_or, drop, Some, None, Decides, fold, Option, sym, refl, ap, ◌∙◌, subst, inl, inr, add-one, one-add, arith}
+use Rattle.std.proofs.Common.{◌≡◌, ℕ, zero, suc, ◌+◌, ◌<◌, max, Bool, true, false, cond, ◌&&◌, ltb, ◌⊎◌, List, [], ◌∷◌, length, get_or, Some, None, Decides, fold, Option, sym, refl, ap, ◌∙◌, subst, inl, inr, one-add, arith}
+use Rattle.std.proofs.Math.Bool.{and-true, and_assoc}
 use Rattle.std.specs.List.{prefix_len, AllByRecursion, slice_get}
-use Rattle.std.proofs.lemmas.List.Sums.{prefix_len-le-length, prefix_len-drop_yes, prefix_len-drop_no}
+use Rattle.std.proofs.lemmas.List.Sums.{prefix_len-le-length}
 use Rattle.std.proofs.lemmas.Bool.{both_ways, false≢true}
 use Rattle.std.proofs.lemmas.Bool.Decides.{nat_tests, Decides-ltb}
 use Rattle.std.proofs.ByRecursion.{Decides-by_and}
 use Rattle.figures.specs.declared.set.FigureSet.{FigureSet}
 use Rattle.figures.specs.declared.set.FigureSet.TheVariants.{One, Two, Three, Four}
 use Rattle.figures.specs.Sets.{figures}
-use Rattle.searchers.specs.Leaving.{standing_at, by_one, by_each, by_largest, settled_as, settled, leaving, Settled, LongestFront}
+use Rattle.searchers.specs.Leaving.{standing_at, by_each, by_largest, settled_as, settled, leaving, Settled, LongestFront}
 use Rattle.searchers.specs.declared.leaving.Standing.TheVariants.{Ended, Open}
 use Rattle.searchers.specs.declared.rows.Held.{Held}
 use Rattle.searchers.specs.declared.rows.Waiting.{Waiting}
 
 module _ {F : Type 0} (ahead : F → ℕ) where
-  each_from : (fs : List F) (j rank rows : ℕ) → by_each ahead (drop j fs) rank rows ≡ (by_one ahead (slice_get fs j) rank rows && by_each ahead (drop (suc j) fs) rank rows)
-  each_from [] zero rank rows = refl
-  each_from [] (suc j) rank rows = refl
-  each_from (f ∷ fs) zero rank rows = refl
-  each_from (f ∷ fs) (suc j) rank rows = each_from fs j rank rows
-
-  -- one figure on, whose reach is within the rows; and one whose reach is not
-  pub one_on : (fs : List F) (j rank rows : ℕ) → by_one ahead (slice_get fs j) rank rows ≡ true → by_each ahead (drop j fs) rank rows ≡ by_each ahead (drop (j + 1) fs) rank rows
-  one_on fs j rank rows e = each_from fs j rank rows ∙ ap (λ b. b && by_each ahead (drop (suc j) fs) rank rows) e ∙ ap (λ k. by_each ahead (drop k fs) rank rows) (sym (add-one j))
-
-  pub one_short : (fs : List F) (j rank rows : ℕ) → by_one ahead (slice_get fs j) rank rows ≡ false → by_each ahead (drop j fs) rank rows ≡ false
-  one_short fs j rank rows e = each_from fs j rank rows ∙ ap (λ b. b && by_each ahead (drop (suc j) fs) rank rows) e
-
   -- the larger of two numbers
   both_within : (rank rows m a : ℕ) → ltb (rank + max m a) rows ≡ (ltb (rank + m) rows && ltb (rank + a) rows)
   both_within rank rows m a = grind (arith, nat_tests)
 
-  and_true : (b : Bool) → (b && true) ≡ b
-  and_true true = refl
-  and_true false = refl
-
-  and_assoc : (x y z : Bool) → ((x && y) && z) ≡ (x && (y && z))
-  and_assoc true y z = refl
-  and_assoc false y z = refl
-
   larger : (fs : List F) (rank rows m : ℕ) → ltb (rank + fold (λ k f. max k (ahead f)) m fs) rows ≡ (ltb (rank + m) rows && by_each ahead fs rank rows)
-  larger [] rank rows m = sym (and_true (ltb (rank + m) rows))
+  larger [] rank rows m = sym (and-true (ltb (rank + m) rows))
   larger (f ∷ fs) rank rows m =
       larger fs rank rows (max m (ahead f))
       ∙ ap (λ b. b && by_each ahead fs rank rows) (both_within rank rows m (ahead f))
@@ -94,8 +74,8 @@ module _ {F : Type 0} (ahead : F → ℕ) (fs : List F) where
   )
 
   place_decides : {K P : Type 0} (rank : ℕ) (place : Option (Option (Held K P))) → Decides (settled_as (by_each ahead fs) (standing_at rank place)) (SettledAt rank place)
-  place_decides rank None = (λ e. absurd (false≢true e), λ s. (let found = s.1 in let z : ◌≡◌ {A = ℕ} 0 1 = cc in absurd (omega arith)))
-  place_decides rank (Some None) = (λ e. absurd (false≢true e), λ s. (let found = s.1 in let z : ◌≡◌ {A = ℕ} 0 1 = cc in absurd (omega arith)))
+  place_decides rank None = (λ e. absurd (false≢true e), λ s. (let found = s.1 in absurd cc))
+  place_decides rank (Some None) = (λ e. absurd (false≢true e), λ s. (let found = s.1 in absurd cc))
   place_decides rank (Some (Some h)) = held_decides rank h h.ended refl
 
   settled_decides : {K R P : Type 0} (held : List (Option (Held K P))) (w : Option (Waiting K R)) → Decides (settled (by_each ahead fs) held w) (Settled ahead fs held w)
@@ -111,14 +91,6 @@ module _ {F : Type 0} (ahead : F → ℕ) (fs : List F) where
         front = λ i d l. (settled_decides held _).0 (leading_front p waiting i d l);
         stop = λ d l s. both_ways _ (leading_stop p waiting d l) ((settled_decides held _).1 s);
       })
-
--- one waiting row on
-module _ {K R P : Type 0} (due : ℕ → ℕ → Bool) (held : List (Option (Held K P))) (waiting : List (Option (Waiting K R))) (n : ℕ) (w : Option (Waiting K R)) (within : n < length waiting) (read : w ≡ get_or waiting n w) where
-  pub goes : settled due held w ≡ true → n + leaving due held (drop n waiting) ≡ leaving due held waiting → n + 1 + leaving due held (drop (n + 1) waiting) ≡ leaving due held waiting
-  goes e inv = omega (arith, inv, prefix_len-drop_yes (settled due held) waiting n w within (ap (settled due held) (sym read) ∙ e))
-
-  pub stays : settled due held w ≡ false → n + leaving due held (drop n waiting) ≡ leaving due held waiting → n ≡ leaving due held waiting
-  stays e inv = omega (arith, inv, prefix_len-drop_no (settled due held) waiting n w within (ap (settled due held) (sym read) ∙ e))
 
 pub same_count : {K R P F : Type 0} (ahead : F → ℕ) (set : FigureSet F) (held : List (Option (Held K P))) (waiting : List (Option (Waiting K R))) → leaving (by_each ahead (figures set)) held waiting ≡ leaving (by_largest ahead (figures set)) held waiting
 same_count ahead set held waiting = ap (λ due. leaving due held waiting) (λ i rank rows. by_set ahead set rank rows i)

@@ -1,6 +1,6 @@
 -- What the numbers of groups mean.
 use Rattle.std.proofs.Common.{◌≡◌, ℕ, zero, suc, ◌+◌, ◌-◌, ◌<◌, ◌≤◌, Bool, true, false, cond, eqb, ltb, List, [], ◌∷◌, ◌++◌, map, length, get_or, replicate, sym, refl, ap, ◌∙◌, subst, inl, inr, suc-le-suc, zero-le, arith}
-use Rattle.keys.specs.Laws.{Equality}
+use Rattle.std.specs.Cmp.{IsEquivalence}
 use Rattle.std.proofs.lemmas.List.{length_push, get_or-map, get_or_append_left}
 use Rattle.std.proofs.lemmas.Bool.{cases_Bool, both_ways, eq-eqb, ne_eqb, cond_both, ltb-true, ltb-false}
 use Rattle.searchers.proofs.Gathers.{some_key}
@@ -79,12 +79,12 @@ module _ {K : Type 0} (same : K → K → Bool) where
   all_noticed seen [] = seen
   all_noticed seen (key ∷ keys) = all_noticed (noticed same key seen) keys
 
-  module _ (equality : Equality same) where
+  module _ (equality : IsEquivalence same) where
     same_right : (x a b : K) → same a b ≡ true → same x a ≡ same x b
     same_right x a b e =
         elim (cases_Bool (same x a)) [
-          | inl t ↦ t ∙ sym (equality.chain x a b t e)
-          | inr f ↦ elim (cases_Bool (same x b)) [ inl t ↦ absurd (both_ways _ f (equality.chain x b a t (equality.back a b e))) | inr g ↦ f ∙ sym g ]
+          | inl t ↦ t ∙ sym (equality.congr x a b t ∙ e)
+          | inr f ↦ elim (cases_Bool (same x b)) [ inl t ↦ absurd (both_ways _ f (equality.congr x b a t ∙ equality.symm b a ∙ e)) | inr g ↦ f ∙ sym g ]
         ]
 
     place_same : (a b : K) (seen : List K) → same a b ≡ true → place same a seen ≡ place same b seen
@@ -96,7 +96,7 @@ module _ {K : Type 0} (same : K → K → Bool) where
         elim (cases_Bool (same a b)) [
           | inl t ↦ eq-eqb _ _ (place_same a b seen t) ∙ sym t
           | inr f ↦ ne_eqb _ _ (λ e.
-              both_ways _ f (equality.chain a _ b (equality.back _ a (place_holds a seen a l)) (subst (λ n. same (get_or seen n a) b ≡ true) (sym e) (place_holds b seen a m)))) ∙ sym f
+              both_ways _ f (equality.congr a _ b (equality.symm a _ ∙ place_holds a seen a l) ∙ (subst (λ n. same (get_or seen n a) b ≡ true) (sym e) (place_holds b seen a m)))) ∙ sym f
         ]
 
     -- a key that is noticed has its place from then on
@@ -107,7 +107,7 @@ module _ {K : Type 0} (same : K → K → Bool) where
         (λ e.
         (let le = place_le key seen in
         let past : place same key seen ≡ length seen = omega (arith, ltb-false (place same key seen) (length seen) e) in
-        let here : place same key (key ∷ []) ≡ 0 = ap (λ b. cond b 0 1) (equality.itself key) in
+        let here : place same key (key ∷ []) ≡ 0 = ap (λ b. cond b 0 1) (equality.refl key) in
         (omega (arith, place_past key seen (key ∷ []) past, here), omega (arith, length_push seen key))))
 
     noticed_more : (key other : K) (seen : List K) → place same key seen < length seen → (place same key (noticed same other seen) ≡ place same key seen) × (length seen ≤ length (noticed same other seen))
@@ -164,7 +164,7 @@ module _ {K : Type 0} (same : K → K → Bool) where
   length_ids seen [] = refl
   length_ids seen (key ∷ keys) = ap suc (length_ids (noticed same key seen) keys)
 
-  module _ (equality : Equality same) (keys : List K) where
+  module _ (equality : IsEquivalence same) (keys : List K) where
     id_at : (i : ℕ) (d : K) → i < length keys → get_or (padded (group_ids same [] keys)) i 256 ≡ place same (get_or keys i d) (all_noticed [] keys)
     id_at i d l =
         get_or_append_left (group_ids same [] keys) _ 256 i (omega (arith, length_ids [] keys))

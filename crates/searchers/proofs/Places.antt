@@ -41,6 +41,10 @@ module _ {K : Type 0} where
   length_picked [] ps h = absurd (omega arith)
   length_picked (k ∷ ks) ps h = length-map ps (λ p. get_or (k ∷ ks) p k)
 
+  pub picked_none : (ks : List K) → picked ks [] ≡ []
+  picked_none [] = refl
+  picked_none (k ∷ ks) = refl
+
   pub picked_at : (ks : List K) (ps : List ℕ) (g : ℕ) (d e : K) → g < length ps → get_or ps g 0 < length ks → get_or (picked ks ps) g d ≡ get_or ks (get_or ps g 0) e
   picked_at [] ps g d e h l = absurd (omega arith)
   picked_at (k ∷ ks) ps g d e h l = get_or-map (λ p. get_or (k ∷ ks) p k) ps g 0 d h ∙ get_or_default (k ∷ ks) (get_or ps g 0) k e l

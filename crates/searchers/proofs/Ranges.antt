@@ -1,7 +1,7 @@
 -- The place after a group's last row.
-use Rattle.std.proofs.Common.{◌≡◌, ℕ, ◌+◌, ◌-◌, cond, eqb, List, [], ◌∷◌, ◌++◌, length, sym, refl, ap, ◌∙◌, subst, inl, inr, arith}
+use Rattle.std.proofs.Common.{◌≡◌, ℕ, ◌+◌, ◌-◌, ◌<◌, cond, eqb, List, [], ◌∷◌, ◌++◌, length, sym, refl, ap, ◌∙◌, subst, inl, inr, arith}
 use Rattle.std.proofs.lemmas.List.{append_assoc, append-nil, length_push, get_or_push, get_or_append_left}
-use Rattle.std.proofs.lemmas.Bool.{cases_lt, cond_both, eqb-true, eqb-false}
+use Rattle.std.proofs.lemmas.Bool.{cases_lt, cases_order, cond_both, eqb-true, eqb-false}
 use Rattle.searchers.specs.Groups.{after_last, AfterLast}
 
 module _ (g : ℕ) where
@@ -32,5 +32,19 @@ module _ (g : ℕ) where
       subst (λ l. AfterLast g l (after_last g (i + 1) (cond (eqb x g) (i + 1) e) xs)) (append_assoc done (x ∷ []) xs)
       (after_on xs (done ++ (x ∷ [])) (i + 1) (cond (eqb x g) (i + 1) e) (length_push done x ∙ ap (λ n. n + 1) long) next)
 
-  pub means_after_last : (ids : List ℕ) (e : ℕ) → e ≡ after_last g 0 0 ids → AfterLast g ids e
-  means_after_last ids e is = subst (AfterLast g ids) (sym is) (after_on ids [] 0 0 refl (record { within = omega arith; last = λ some. absurd (omega arith); none = λ j l m _. omega arith }))
+  after_last_means : (ids : List ℕ) → AfterLast g ids (after_last g 0 0 ids)
+  after_last_means ids = after_on ids [] 0 0 refl (record { within = omega arith; last = λ some. absurd (omega arith); none = λ j l m _. omega arith })
+
+  not_before : (ids : List ℕ) (d e : ℕ) → AfterLast g ids d → AfterLast g ids e → d < e → ⊥
+  not_before ids d e at_d at_e l = at_d.none (e - 1) (omega arith) (omega (arith, at_e.within)) (at_e.last (omega arith))
+
+  -- there is one such place
+  pub is_after_last : (ids : List ℕ) (e : ℕ) → AfterLast g ids e → e ≡ after_last g 0 0 ids
+  is_after_last ids e at =
+      elim (cases_order e (after_last g 0 0 ids)) [
+        | inl same ↦ same
+        | inr differs ↦ elim differs [
+          | inl before ↦ absurd (not_before ids e _ at (after_last_means ids) before)
+          | inr after ↦ absurd (not_before ids _ e (after_last_means ids) at after)
+        ]
+      ]

@@ -1,5 +1,5 @@
 -- Which waiting rows are settled, and how many leave: the longest front of them that is settled throughout.
-use Rattle.std.specs.Prelude.{◌≡◌, ℕ, ◌+◌, ◌<◌, ◌≤◌, Bool, true, false, cond, ◌&&◌, ◌⊎◌, List, [], ◌∷◌, length, Some, None, Option, nat_lt, slice_index_or}
+use Rattle.std.specs.Prelude.{◌≡◌, ℕ, ◌+◌, ◌<◌, ◌≤◌, Bool, true, false, if◌then◌else◌, ◌&&◌, ◌⊎◌, List, [], ◌∷◌, length, Some, None, Option, nat_lt, slice_index_or}
 use Rattle.std.specs.List.{prefix_len, AllByRecursion, slice_get}
 use Rattle.figures.specs.Sets.{largest}
 use Rattle.searchers.specs.declared.leaving.Standing.{Standing}
@@ -11,7 +11,7 @@ use Rattle.searchers.specs.declared.rows.Waiting.{Waiting}
 abbrev pub standing_at : {K P : Type 0} → ℕ → Option (Option (Held K P)) → Standing
 standing_at rank None = Nowhere
 standing_at rank (Some None) = Nowhere
-standing_at rank (Some (Some held)) = cond held.ended Ended (Open rank held.rows)
+standing_at rank (Some (Some held)) = if held.ended then Ended else Open rank held.rows
 
 abbrev pub standing : {K R P : Type 0} → List (Option (Held K P)) → Option (Waiting K R) → Standing
 standing held None = Nowhere
@@ -24,11 +24,6 @@ by_each ahead (f ∷ fs) rank rows = nat_lt (rank + ahead f) rows && by_each ahe
 
 abbrev pub by_largest : {F : Type 0} → (F → ℕ) → List F → ℕ → ℕ → Bool
 by_largest ahead fs rank rows = nat_lt (rank + largest ahead fs) rows
-
--- one figure of some, where there is one
-abbrev pub by_one : {F : Type 0} → (F → ℕ) → Option F → ℕ → ℕ → Bool
-by_one ahead None rank rows = true
-by_one ahead (Some f) rank rows = nat_lt (rank + ahead f) rows
 
 -- a row whose key is not held is not settled, and one whose key has ended is
 abbrev pub settled_as : (ℕ → ℕ → Bool) → Standing → Bool

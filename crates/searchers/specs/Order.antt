@@ -1,5 +1,5 @@
 -- The order that each mode asks of the keys of a batch.
-use Rattle.std.specs.Prelude.{◌≡◌, ℕ, zero, suc, ◌+◌, ◌<◌, Bool, true, false, cond, List, [], ◌∷◌, map, length, Some, None, Option, slice_index_or}
+use Rattle.std.specs.Prelude.{◌≡◌, ℕ, zero, suc, ◌+◌, ◌<◌, Bool, true, false, if◌then◌else◌, List, [], ◌∷◌, map, length, Some, None, Option, slice_index_or}
 use Rattle.std.specs.declared.cmp.Ordering.{Ordering}
 use Rattle.std.specs.Ordering.{is_lt}
 use Rattle.searchers.specs.declared.modes.Mode.{Mode}
@@ -24,7 +24,7 @@ falls low (Some before) key = low key before
 -- the first place, counted on from i, whose key is below the one before it
 abbrev pub first_fall : {K : Type 0} → (K → K → Bool) → Option K → ℕ → List K → Option ℕ
 first_fall low before i [] = None
-first_fall low before i (key ∷ keys) = cond (falls low before key) (Some i) (first_fall low (Some key) (i + 1) keys)
+first_fall low before i (key ∷ keys) = if falls low before key then Some i else first_fall low (Some key) (i + 1) keys
 
 -- the key before the one at a place: the one in front of it, or the last before them all
 abbrev pub key_before : {K : Type 0} → Option K → List K → ℕ → K → Option K

@@ -8,11 +8,12 @@ use crate::rows::Held;
 use keys::key::{Key, OrderedKey};
 
 // Whether a mode says that a key has ended, from the key of the last accepted row.
+// Mode and last key stay two parameters: a searcher has the one, a run the other.
 fn ends_by<K: OrderedKey>(mode: Mode, key: &K, last: &K) -> bool
-    ensures { result ≡ ended_by mode K.Key.same K.OrderedKey.parts last.now key.now }
+    ensures { result ≡ ended_by mode K.eq K.OrderedKey.parts last.now key.now }
 {
     match mode {
-        Mode::Sorted => !key.equals(last),
+        Mode::Sorted => key != last,
         Mode::PartlySorted => key.compare_parts(last).is_ne(),
         Mode::Linear => false,
     }
@@ -20,30 +21,17 @@ fn ends_by<K: OrderedKey>(mode: Mode, key: &K, last: &K) -> bool
 
 // The same where there may be no accepted row: then no key has ended.
 pub(crate) fn ends_at<K: OrderedKey>(mode: Mode, key: &K, last: Option<K>) -> bool
-    ensures { result ≡ ended_at mode K.Key.same K.OrderedKey.parts last key.now }
+    ensures { result ≡ ended_at mode K.eq K.OrderedKey.parts last key.now }
 {
-    match last {
-        Some(last) => ends_by(mode, key, &last),
-        None => false,
-    }
+    last.is_some_and(|last| ends_by(mode, key, &last))
 }
 
-// A place of the held keys, marked.
-fn mark<K: OrderedKey, P: Copy>(
-    mode: Mode,
-    place: Option<Held<K, P>>,
-    last: Option<K>,
-) -> Option<Held<K, P>>
-    ensures { result ≡ option_map (marked (ended_at mode K.Key.same K.OrderedKey.parts last)) place }
+// Marks a place of the held keys.
+fn mark<K: OrderedKey, P: Copy>(mode: Mode, place: &mut Option<Held<K, P>>, last: Option<K>)
+    ensures { place.new ≡ option_map (marked (ended_at mode K.eq K.OrderedKey.parts last)) place.old }
 {
-    match place {
-        Some(held) => Some(Held {
-            key: held.key,
-            rows: held.rows,
-            ended: ends_at(mode, &held.key, last),
-            progress: held.progress,
-        }),
-        None => None,
+    if let Some(held) = place {
+        held.ended = ends_at(mode, &held.key, last);
     }
 }
 
@@ -53,15 +41,14 @@ pub(crate) fn mark_all<K: OrderedKey, P: Copy>(
     held: &mut [Option<Held<K, P>>],
     last: Option<K>,
 )
-    ensures { held.new ≡ map (option_map (marked (ended_at mode K.Key.same K.OrderedKey.parts last))) held.old }
+    ensures { held.new ≡ map (option_map (marked (ended_at mode K.eq K.OrderedKey.parts last))) held.old }
 {
-    for i in 0..held.len() {
-        let place = held[i];
-        held[i] = mark(mode, place, last);
+    for place in held {
+        mark(mode, place, last);
     }
 }
 
 // Why ended keys may be let go: as long as the rows keep the mode's order, no later row has one.
 pub fn ended_for_good<K: OrderedKey>()
-    ensures { EndedForGood K.Key.same K.OrderedKey.order K.OrderedKey.parts }
+    ensures { EndedForGood K.eq K.cmp K.OrderedKey.parts }
 {}

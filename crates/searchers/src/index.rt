@@ -1,89 +1,96 @@
 // The different keys of a batch by number, as their first rows, with a hash table over them. Ported from datafusion-physical-plan's bounded_window_agg_exec.rs and changed.
-ghost use Rattle.std.specs.Prelude.{◌≡◌, ℕ, ◌+◌, ◌^◌, ◌<◌, ◌≤◌, [], ◌∷◌, ◌++◌, length, take, replicate, if◌then◌else◌, nat_lt, slice_index_or};
+ghost use Rattle.std.specs.Prelude.{◌≡◌, ◌<◌, ◌≤◌, [], ◌∷◌, ◌++◌, length, take, if◌then◌else◌, nat_lt, slice_index_or};
 ghost use Rattle.searchers.specs.Order.{keys_of};
-ghost use Rattle.searchers.specs.Groups.{place, padded};
-ghost use Rattle.searchers.specs.Table.{Sound, Landed, picked, Inside};
+ghost use Rattle.searchers.specs.Groups.{place};
+ghost use Rattle.searchers.specs.Table.{Landed, picked, Indexed, Indexes};
 
+use crate::numbers::Numbers;
 use crate::rows::Row;
 use keys::key::Key;
+use std::marker::Model;
 
 // Equality decides, not the hash.
 fn has_key<K: Key>(row: &Row<K>, key: &K) -> bool
-    ensures { result ≡ K.Key.same row.now.key key.now }
+    ensures { result ≡ K.eq row.now.key key.now }
 {
-    row.key.equals(key)
+    row.key == *key
 }
 
-#[derive(Clone, Copy)]
-pub(crate) struct KeyIndex {
-    pub(crate) firsts: [u16; 256],
-    pub(crate) count: usize,
-    slots: [u16; 512],
+// A slot of the table holds a key's number, or nothing.
+// Arrays and no map, since memory is fixed.
+#[derive(Drop)]
+pub(crate) struct KeyIndex<'a, K: Key> {
+    rows: &'a [Row<K>],
+    pub(crate) firsts: Numbers,
+    slots: [Option<u8>; 512],
 }
 
-impl KeyIndex {
+impl<'a, K: Key> Model for KeyIndex<'a, K> {
+    ghost use Rattle.searchers.specs.Order.{keys_of};
+    ghost use Rattle.searchers.specs.Table.{Indexed, Indexes};
+
+    ghost Value = { Indexed K };
+
+    ghost view = { λ index. record { keys = keys_of index.rows.now; firsts = index.firsts; slots = index.slots } };
+
+    ghost invariant = { λ index. Indexes K.eq K.Key.hashed index.rows.now index.firsts index.slots };
+}
+
+impl<'a, K: Key> KeyIndex<'a, K> {
     // No key yet.
-    pub(crate) fn new() -> Self
-        ensures count { result.count ≡ 0 }
-        ensures slots { result.slots ≡ replicate 512 0 }
-        ensures firsts { result.firsts ≡ replicate 256 256 }
+    pub(crate) fn new(rows: &'a [Row<K>]) -> Self
+        requires { length rows.now ≤ 256 }
+        ensures keys { result.keys ≡ keys_of rows.now }
+        ensures firsts { result.firsts ≡ [] }
     {
         KeyIndex {
-            firsts: [256; 256],
-            count: 0,
-            slots: [0; 512],
+            rows,
+            firsts: Numbers::new(),
+            slots: [None; 512],
         }
     }
 
-    // The slot of the same key, or the free slot at which the search for it ends.
-    fn probe<K: Key>(&self, rows: &[Row<K>], key: &K) -> usize
-        requires few { self.now.count ≤ 256 }
-        requires some { 0 < length rows.now }
-        requires inside { Inside (length rows.now) (take self.now.count self.now.firsts) }
-        requires sound { Sound K.Key.same K.Key.hashed (picked (keys_of rows.now) (take self.now.count self.now.firsts)) self.now.slots }
-        ensures { Landed K.Key.same K.Key.hashed (picked (keys_of rows.now) (take self.now.count self.now.firsts)) self.now.slots key.now result }
+    // The number of the same key, or else the free slot at which the search for it ends.
+    fn probe(&self, key: &K) -> Result<usize, usize>
+        requires { 0 < length self.now.keys }
+        ensures { Landed K.eq K.Key.hashed (picked self.now.keys self.now.firsts) self.now.slots key.now result }
     {
+        let rows = self.rows;
         let start = (key.hash() % 512) as usize;
+        // The search goes round the table from the hash's own slot: it counts steps, and no chain says that plainer.
         for step in 0..512 {
             let at = (start + step) % 512;
-            let held = self.slots[at] as usize;
-            if held == 0 {
-                return at;
-            }
-            let first = self.firsts[held - 1] as usize;
+            let Some(held) = self.slots[at] else {
+                return Err(at);
+            };
+            let group = usize::from(held);
+            let first = self.firsts.get(group);
             if has_key(&rows[first], key) {
-                return at;
+                return Ok(group);
             }
         }
-        unreachable()
+        unreachable!()
     }
 
     // The number of row i's key, which gets the next one where no key before it is the same.
-    pub(crate) fn group_of<K: Key>(&mut self, rows: &[Row<K>], i: usize) -> usize
-        requires room { self.old.count < 256 }
-        requires row { i < length rows.now }
-        requires low { i < 2 ^ 16 }
-        requires laid { self.old.firsts ≡ padded (take self.old.count self.old.firsts) }
-        requires inside { Inside (length rows.now) (take self.old.count self.old.firsts) }
-        requires sound { Sound K.Key.same K.Key.hashed (picked (keys_of rows.now) (take self.old.count self.old.firsts)) self.old.slots }
-        ensures value { (d : K) → result ≡ place K.Key.same (slice_index_or (keys_of rows.now) i d) (picked (keys_of rows.now) (take self.old.count self.old.firsts)) }
-        ensures firsts { take self.new.count self.new.firsts ≡ (if nat_lt result self.old.count then take self.old.count self.old.firsts else take self.old.count self.old.firsts ++ (i ∷ [])) }
-        ensures count { self.new.count ≡ (if nat_lt result self.old.count then self.old.count else self.old.count + 1) }
-        ensures within { result ≤ self.old.count }
-        ensures wide { length self.new.firsts ≡ 256 }
-        ensures laid { self.new.firsts ≡ padded (take self.new.count self.new.firsts) }
-        ensures inside { Inside (length rows.now) (take self.new.count self.new.firsts) }
-        ensures sound { Sound K.Key.same K.Key.hashed (picked (keys_of rows.now) (take self.new.count self.new.firsts)) self.new.slots }
+    pub(crate) fn group_of(&mut self, i: usize) -> usize
+        requires row { i < length self.old.keys }
+        requires room { length self.old.firsts < 256 }
+        ensures value { (d : K) → result ≡ place K.eq (slice_index_or self.old.keys i d) (picked self.old.keys self.old.firsts) }
+        ensures keys { self.new.keys ≡ self.old.keys }
+        ensures firsts { self.new.firsts ≡ (if nat_lt result (length self.old.firsts) then self.old.firsts else self.old.firsts ++ (i ∷ [])) }
+        ensures within { result ≤ length self.old.firsts }
+        ensures picked { length (picked self.old.keys self.old.firsts) ≡ length self.old.firsts }
     {
-        let at = self.probe(rows, &rows[i].key);
-        let held = self.slots[at] as usize;
-        if held > 0 {
-            return held - 1;
+        let rows = self.rows;
+        match self.probe(&rows[i].key) {
+            Ok(group) => group,
+            Err(free) => {
+                let group = self.firsts.len();
+                self.firsts.push(i);
+                self.slots[free] = Some(group as u8);
+                group
+            }
         }
-        let group = self.count;
-        self.firsts[group] = i as u16;
-        self.slots[at] = (group + 1) as u16;
-        self.count = group + 1;
-        group
     }
 }

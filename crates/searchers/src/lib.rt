@@ -6,6 +6,7 @@ pub mod groups;
 mod index;
 mod leaving;
 pub mod modes;
+mod numbers;
 mod order;
 pub mod rows;
 pub mod search;

@@ -3,19 +3,19 @@ ghost use Rattle.std.specs.Prelude.{◌≡◌};
 ghost use Rattle.searchers.specs.Modes.{number, linear_mode};
 
 // Sorted: by whole keys. Partly sorted: by the keys' sorted parts. Linear: in any order.
-#[derive(Clone, Copy)]
+#[derive(Clone, Copy, Debug, PartialEq, Eq)]
 pub enum Mode {
     Sorted,
     PartlySorted,
     Linear,
 }
 
-impl Mode {
-    // The number that names the mode.
-    pub fn number(self) -> u8
-        ensures { result ≡ number self }
-    {
-        match self {
+// The number that names a mode.
+impl From<Mode> for u8 {
+    ghost from_gives = { λ mode named. named ≡ number mode };
+
+    fn from(mode: Mode) -> u8 {
+        match mode {
             Mode::Sorted => 1,
             Mode::PartlySorted => 2,
             Mode::Linear => 3,
@@ -24,17 +24,17 @@ impl Mode {
 }
 
 // The two modes that a linear search can be made with.
-#[derive(Clone, Copy)]
+#[derive(Clone, Copy, Debug, PartialEq, Eq)]
 pub enum LinearKind {
     PartlySorted,
     Linear,
 }
 
-impl LinearKind {
-    pub fn mode(self) -> Mode
-        ensures { result ≡ linear_mode self }
-    {
-        match self {
+impl From<LinearKind> for Mode {
+    ghost from_gives = { λ kind mode. mode ≡ linear_mode kind };
+
+    fn from(kind: LinearKind) -> Mode {
+        match kind {
             LinearKind::PartlySorted => Mode::PartlySorted,
             LinearKind::Linear => Mode::Linear,
         }

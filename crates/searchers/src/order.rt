@@ -1,6 +1,6 @@
 // The order check of a batch.
 ghost use Rattle.std.specs.Prelude.{◌≡◌};
-ghost use Rattle.searchers.specs.Order.{keys_of, lower, first_fall, FirstFall};
+ghost use Rattle.searchers.specs.Order.{keys_of, lower, falls, first_fall, FirstFall};
 
 use crate::modes::Mode;
 use crate::rows::Row;
@@ -8,13 +8,20 @@ use keys::key::OrderedKey;
 
 // Whether a mode's order puts `x` below `y`.
 fn is_lower<K: OrderedKey>(mode: Mode, x: &K, y: &K) -> bool
-    ensures { result ≡ lower mode K.OrderedKey.order K.OrderedKey.parts x.now y.now }
+    ensures { result ≡ lower mode K.cmp K.OrderedKey.parts x.now y.now }
 {
     match mode {
-        Mode::Sorted => x.compare(y).is_lt(),
+        Mode::Sorted => x.cmp(y).is_lt(),
         Mode::PartlySorted => x.compare_parts(y).is_lt(),
         Mode::Linear => false,
     }
+}
+
+// Whether a key is below the one before it, if there is one.
+fn falls<K: OrderedKey>(mode: Mode, before: Option<K>, key: &K) -> bool
+    ensures { result ≡ falls (lower mode K.cmp K.OrderedKey.parts) before key.now }
+{
+    before.is_some_and(|before| is_lower(mode, key, &before))
 }
 
 // The first row whose key is below that of the row before it; `last` is the key of the row before the batch.
@@ -23,18 +30,16 @@ pub(crate) fn first_fall<K: OrderedKey>(
     rows: &[Row<K>],
     last: Option<K>,
 ) -> Option<usize>
-    ensures value { result ≡ first_fall (lower mode K.OrderedKey.order K.OrderedKey.parts) last 0 (keys_of rows.now) }
-    ensures first { FirstFall (lower mode K.OrderedKey.order K.OrderedKey.parts) last (keys_of rows.now) result }
+    ensures value { result ≡ first_fall (lower mode K.cmp K.OrderedKey.parts) last 0 (keys_of rows.now) }
+    ensures first { FirstFall (lower mode K.cmp K.OrderedKey.parts) last (keys_of rows.now) result }
 {
+    // A chain of the keys with the ones before them is no plainer: `last` comes first, and all but the last row's key after it.
     let mut before = last;
     for (i, row) in rows.iter().enumerate() {
-        let key = row.key;
-        if let Some(earlier) = before {
-            if is_lower(mode, &key, &earlier) {
-                return Some(i);
-            }
+        if falls(mode, before, &row.key) {
+            return Some(i);
         }
-        before = Some(key);
+        before = Some(row.key);
     }
     None
 }

@@ -9,6 +9,7 @@ pub struct Row<K> {
 }
 
 // A waiting row: the place of its key among the held keys, its rank among the accepted rows of its key, and its results so far, which no searcher looks at.
+// The key is named by its place and not by a map or a reference: memory is fixed, and tables move their values.
 #[derive(Clone, Copy)]
 pub struct Waiting<K, R> {
     pub row: Row<K>,

@@ -2,7 +2,7 @@
 ghost use Rattle.std.specs.Prelude.{◌≡◌, map, take};
 ghost use Rattle.std.specs.Option.{option_map};
 ghost use Rattle.figures.specs.Sets.{figures};
-ghost use Rattle.searchers.specs.declared.modes.Mode.{Mode as Way};
+ghost use Rattle.searchers.specs.declared.modes.Mode.{Mode};
 ghost use Rattle.searchers.specs.declared.modes.Mode.TheVariants.{Sorted};
 ghost use Rattle.searchers.specs.Modes.{linear_mode};
 ghost use Rattle.searchers.specs.Order.{keys_of, lower, first_fall, FirstFall};
@@ -20,30 +20,39 @@ use figures::figure::Figure;
 use figures::set::FigureSet;
 use keys::key::{Key, OrderedKey};
 
-// A searcher by its meaning: it has one mode, and each method gives that mode's answer, for every input and each time alike.
+// A searcher by its meaning: it has one mode, and each method gives that mode's answer, for every input and each time alike. A searcher says its mode and how it groups a batch; the other answers follow from the mode.
 pub trait PartitionSearcher<K: OrderedKey> {
-    ghost mode: { Self → Way };
+    ghost mode: { Self → Mode };
 
     fn input_order_mode(&self) -> Mode
         ensures { result ≡ mode self.now };
 
     // The first row that is out of the mode's order; `last` is the key of the last accepted row, if there is one.
     fn check_order(&self, rows: &[Row<K>], last: &Option<K>) -> Option<usize>
-        ensures value { result ≡ first_fall (lower (mode self.now) K.OrderedKey.order K.OrderedKey.parts) last.now 0 (keys_of rows.now) }
-        ensures first { FirstFall (lower (mode self.now) K.OrderedKey.order K.OrderedKey.parts) last.now (keys_of rows.now) result };
+        ensures value { result ≡ first_fall (lower (mode self.now) K.cmp K.OrderedKey.parts) last.now 0 (keys_of rows.now) }
+        ensures first { FirstFall (lower (mode self.now) K.cmp K.OrderedKey.parts) last.now (keys_of rows.now) result }
+    {
+        first_fall(self.input_order_mode(), rows, *last)
+    }
 
     // The groups of a batch, of its first 256 rows where it has more.
     fn evaluate_partition_batches(&self, rows: &[Row<K>]) -> Groups
-        ensures value { result ≡ grouped K.Key.same (keys_of (take 256 rows.now)) }
-        ensures means { GroupsOf K.Key.same (keys_of (take 256 rows.now)) result };
+        ensures value { result ≡ grouped K.eq (keys_of (take 256 rows.now)) }
+        ensures means { GroupsOf K.eq (keys_of (take 256 rows.now)) result };
 
     // Whether a key has ended; `last` is the key of the last accepted row, if there is one.
     fn has_ended(&self, key: &K, last: &Option<K>) -> bool
-        ensures { result ≡ ended_at (mode self.now) K.Key.same K.OrderedKey.parts last.now key.now };
+        ensures { result ≡ ended_at (mode self.now) K.eq K.OrderedKey.parts last.now key.now }
+    {
+        ends_at(self.input_order_mode(), key, *last)
+    }
 
     // Marks each held key as ended or not.
     fn mark_partition_end<P: Copy>(&self, held: &mut [Option<Held<K, P>>], last: &Option<K>)
-        ensures { held.new ≡ map (option_map (marked (ended_at (mode self.now) K.Key.same K.OrderedKey.parts last.now))) held.old };
+        ensures { held.new ≡ map (option_map (marked (ended_at (mode self.now) K.eq K.OrderedKey.parts last.now))) held.old }
+    {
+        mark_all(self.input_order_mode(), held, *last);
+    }
 
     // How many waiting rows leave: the length of the longest front of them that is settled throughout.
     fn calculate_n_out_row<R, P, F: Figure>(
@@ -54,11 +63,14 @@ pub trait PartitionSearcher<K: OrderedKey> {
     ) -> usize
         ensures each { result ≡ leaving (by_each F.Figure.ahead (figures set.now)) held.now waiting.now }
         ensures largest { result ≡ leaving (by_largest F.Figure.ahead (figures set.now)) held.now waiting.now }
-        ensures front { LongestFront (Settled F.Figure.ahead (figures set.now) held.now) waiting.now result };
+        ensures front { LongestFront (Settled F.Figure.ahead (figures set.now) held.now) waiting.now result }
+    {
+        count_leaving(waiting, held, set)
+    }
 }
 
 // Mode 1: groups are neighbouring equal rows.
-#[derive(Clone, Copy)]
+#[derive(Clone, Copy, Debug, PartialEq, Eq)]
 pub struct SortedSearch;
 
 impl<K: OrderedKey> PartitionSearcher<K> for SortedSearch {
@@ -68,39 +80,15 @@ impl<K: OrderedKey> PartitionSearcher<K> for SortedSearch {
         Mode::Sorted
     }
 
-    fn check_order(&self, rows: &[Row<K>], last: &Option<K>) -> Option<usize> {
-        first_fall(Mode::Sorted, rows, *last)
-    }
-
     // A batch that is not sorted is grouped by the hash table.
     fn evaluate_partition_batches(&self, rows: &[Row<K>]) -> Groups {
         let rows = first_rows(rows);
-        match evaluate_partition_ranges(rows) {
-            Some(groups) => groups,
-            None => group_by_hash(rows),
-        }
-    }
-
-    fn has_ended(&self, key: &K, last: &Option<K>) -> bool {
-        ends_at(Mode::Sorted, key, *last)
-    }
-
-    fn mark_partition_end<P: Copy>(&self, held: &mut [Option<Held<K, P>>], last: &Option<K>) {
-        mark_all(Mode::Sorted, held, *last);
-    }
-
-    fn calculate_n_out_row<R, P, F: Figure>(
-        &self,
-        waiting: &[Option<Waiting<K, R>>],
-        held: &[Option<Held<K, P>>],
-        set: &FigureSet<F>,
-    ) -> usize {
-        count_leaving(waiting, held, set)
+        evaluate_partition_ranges(rows).unwrap_or_else(|| group_by_hash(rows))
     }
 }
 
 // Modes 2 and 3: groups come from a hash table.
-#[derive(Clone, Copy)]
+#[derive(Clone, Copy, Debug, PartialEq, Eq)]
 pub struct LinearSearch {
     kind: LinearKind,
 }
@@ -117,31 +105,10 @@ impl<K: OrderedKey> PartitionSearcher<K> for LinearSearch {
     ghost mode = { λ s. linear_mode s.kind };
 
     fn input_order_mode(&self) -> Mode {
-        self.kind.mode()
-    }
-
-    fn check_order(&self, rows: &[Row<K>], last: &Option<K>) -> Option<usize> {
-        first_fall(self.kind.mode(), rows, *last)
+        Mode::from(self.kind)
     }
 
     fn evaluate_partition_batches(&self, rows: &[Row<K>]) -> Groups {
         group_by_hash(first_rows(rows))
-    }
-
-    fn has_ended(&self, key: &K, last: &Option<K>) -> bool {
-        ends_at(self.kind.mode(), key, *last)
-    }
-
-    fn mark_partition_end<P: Copy>(&self, held: &mut [Option<Held<K, P>>], last: &Option<K>) {
-        mark_all(self.kind.mode(), held, *last);
-    }
-
-    fn calculate_n_out_row<R, P, F: Figure>(
-        &self,
-        waiting: &[Option<Waiting<K, R>>],
-        held: &[Option<Held<K, P>>],
-        set: &FigureSet<F>,
-    ) -> usize {
-        count_leaving(waiting, held, set)
     }
 }

@@ -1,5 +1,5 @@
 -- Settings by numbers and letters: what they say, or the first cause against them.
-use Rattle.std.specs.Prelude.{ℕ, ◌+◌, Bool, true, false, cond, not, ◌&&◌, List, [], ◌∷◌, take, Some, None, Ok, Err, Option, Result, ◌==◌, nat_le}
+use Rattle.std.specs.Prelude.{ℕ, ◌+◌, Bool, true, false, if◌then◌else◌, not, ◌&&◌, List, [], ◌∷◌, take, Some, None, Ok, Err, Option, Result, ◌==◌, nat_le}
 use Rattle.figures.specs.declared.cells.Column.{Column}
 use Rattle.figures.specs.declared.cells.Column.TheVariants.{C0, C1, C2, C3}
 use Rattle.figures.specs.declared.letters.Letter.{Letter}
@@ -17,7 +17,7 @@ use Rattle.settings.specs.declared.raw.RawSettings.{RawSettings}
 -- the first of some whose number it is, or none
 abbrev pub named : {X : Type 0} → (X → ℕ) → List X → ℕ → Option X
 named number_of [] n = None
-named number_of (x ∷ xs) n = cond (number_of x == n) (Some x) (named number_of xs n)
+named number_of (x ∷ xs) n = if number_of x == n then Some x else named number_of xs n
 
 abbrev pub letters : List Letter
 letters =
@@ -61,8 +61,11 @@ free letter.Later = (false, true)
 free letter.Mean = (true, true)
 
 -- a reach is at most 512, and 0 where it is not free
+abbrev pub longest : Bool → ℕ
+longest may = if may then 512 else 0
+
 abbrev pub within_reach : Bool → ℕ → Bool
-within_reach may n = nat_le n (cond may 512 0)
+within_reach may n = nat_le n (longest may)
 
 -- one figure, at a place among the others
 
@@ -76,7 +79,7 @@ over_column at raw l (Some c) = reaching at raw l c (within_reach (free l).0 raw
 
 -- the column that a letter takes: one of four, and 0 where the letter looks at no cell
 abbrev pub column_of : Letter → ℕ → Option Column
-column_of l n = cond (no_column l && not (n == 0)) None (named place columns n)
+column_of l n = if no_column l && not (n == 0) then None else named place columns n
 
 abbrev pub by_letter : ℕ → RawFigure → Option Letter → Result LetterFigure Told
 by_letter at raw None = Err (of_settings 4 at)
@@ -105,6 +108,10 @@ pub record Given : Type 0 where
 abbrev pub between : ℕ → ℕ → ℕ → Bool
 between low high n = nat_le low n && nat_le n high
 
+-- the number of a key kind, or that there is none of that number
+abbrev pub kind_given : ℕ → Result ℕ Told
+kind_given n = if between 1 3 n then Ok n else Err (of_settings 1 0)
+
 -- the mode by its number
 
 abbrev pub mode_told : Option Mode → Result Mode Told
@@ -121,16 +128,16 @@ with_figures kind m (Ok fs) = Ok (record { kind = kind; mode = m; figures = fs }
 -- the figures, as many as the settings say: one to four
 abbrev pub set_given : RawSettings → Result (List LetterFigure) Told
 set_given raw =
-    cond (between 1 4 raw.figures)
-    (figures_given 0 (take raw.figures (raw.first ∷ raw.second ∷ raw.third ∷ raw.fourth ∷ [])))
-    (Err (of_settings 3 0))
+    if between 1 4 raw.figures
+    then figures_given 0 (take raw.figures (raw.first ∷ raw.second ∷ raw.third ∷ raw.fourth ∷ []))
+    else Err (of_settings 3 0)
 
 abbrev pub in_mode : RawSettings → Result Mode Told → Result Given Told
 in_mode raw (Err told) = Err told
 in_mode raw (Ok m) = with_figures raw.key_kind m (set_given raw)
 
 abbrev pub given : RawSettings → Result Given Told
-given raw = cond (between 1 3 raw.key_kind) (in_mode raw (mode_given raw.mode)) (Err (of_settings 1 0))
+given raw = if between 1 3 raw.key_kind then in_mode raw (mode_given raw.mode) else Err (of_settings 1 0)
 
 -- something of what was answered
 abbrev pub mapped_ok : {A B E : Type 0} → (A → B) → Result A E → Result B E

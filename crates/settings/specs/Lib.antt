@@ -1,3 +1,4 @@
 pub mod Given
+pub mod Kinds
 pub mod Letters
 pub mod Searches

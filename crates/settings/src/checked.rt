@@ -26,17 +26,24 @@ impl<K, S, F> Settings<K, S, F> {
         }
     }
 
+    pub fn searcher(&self) -> &S
+        ensures { result.now ≡ self.now.searcher }
+    {
+        &self.searcher
+    }
+
+    pub fn set(&self) -> &FigureSet<F>
+        ensures { result.now ≡ self.now.set }
+    {
+        &self.set
+    }
+
     // Takes the settings apart.
     pub fn into_parts(self) -> (S, FigureSet<F>)
         ensures searcher { result.0 ≡ self.searcher }
         ensures set { result.1 ≡ self.set }
     {
-        let Settings {
-            searcher,
-            set,
-            keys,
-        } = self;
-        (searcher, set)
+        (self.searcher, self.set)
     }
 }
 

@@ -1,6 +1,6 @@
 // Settings as given, by numbers and letters.
 
-#[derive(Clone, Copy)]
+#[derive(Clone, Copy, Debug, PartialEq, Eq)]
 pub struct RawFigure {
     pub letter: u8,
     pub column: u8,
@@ -9,7 +9,8 @@ pub struct RawFigure {
 }
 
 // How many figures there are is given too; those behind that number are not looked at.
-#[derive(Clone, Copy)]
+// All stands as it was given, as numbers and letters in named fields: the checks say what they name.
+#[derive(Clone, Copy, Debug, PartialEq, Eq)]
 pub struct RawSettings {
     pub key_kind: u8,
     pub mode: u8,

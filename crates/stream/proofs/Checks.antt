@@ -1,47 +1,13 @@
--- The first cause against a call.
-use Rattle.std.proofs.Common.{◌≡◌, ℕ, zero, suc, ◌<◌, ◌≤◌, true, false, ltb, List, [], ◌∷◌, ◌++◌, take, Some, None, Err, Option, Result, sym, refl, ap, ◌∙◌, subst, inl, inr, arith}
-use Rattle.std.specs.List.{AllByRecursion, slice_get}
+-- What a check that ended with a refusal hands on, and what rows are that were taken as a batch.
+use Rattle.std.proofs.Common.{◌≡◌, ℕ, ◌<◌, ◌≤◌, if◌then◌else◌, nat_le, Some, None, Ok, Err, Option, Result, sym, ap, ◌∙◌, subst, inl, inr, arith}
+use Rattle.std.specs.Option.{ok_or}
+use Rattle.std.specs.Result.{result_ok}
 use Rattle.std.proofs.lemmas.Bool.{cases_Bool}
 use Rattle.std.proofs.lemmas.Bool.Decides.{nat_tests}
 use Rattle.faults.specs.declared.told.Told.{Told}
 use Rattle.faults.specs.declared.run.RunFault.{RunFault}
-use Rattle.faults.specs.Causes.{when, first_of}
 use Rattle.faults.specs.Numbers.{run_told}
 use Rattle.stream.specs.Steps.{Checks, Gives}
-
--- a cause behind which there are none in front is the first
-pub first_at : (n : ℕ) (causes : List (Option Told)) (told : Told) → AllByRecursion (λ cause. cause ≡ None) (take n causes) → slice_get causes n ≡ Some (Some told) → first_of causes ≡ Some told
-first_at n [] told none is = let z : ◌≡◌ {A = ℕ} 0 1 = cc in absurd (omega arith)
-first_at zero (cause ∷ causes) told none is = let e : cause ≡ Some told = cc in ap (λ c. first_of (c ∷ causes)) e
-first_at (suc n) (cause ∷ causes) told none is = ap (λ c. first_of (c ∷ causes)) none.0 ∙ first_at n causes told none.1 is
-
--- where there is no cause there is no first
-pub none_first : (causes : List (Option Told)) → AllByRecursion (λ cause. cause ≡ None) causes → first_of causes ≡ None
-none_first [] none = refl
-none_first (cause ∷ causes) none = ap (λ c. first_of (c ∷ causes)) none.0 ∙ none_first causes none.1
-
--- where no cause is the first, there is none
-pub no_cause : (causes : List (Option Told)) → first_of causes ≡ None → AllByRecursion (λ cause. cause ≡ None) causes
-no_cause [] e = tt
-no_cause (None ∷ causes) e = (refl, no_cause causes e)
-no_cause (Some told ∷ causes) e = let z : ◌≡◌ {A = ℕ} 0 1 = cc in absurd (omega arith)
-
-pub when_above : (m n : ℕ) (told : Told) → m < n → when (ltb m n) told ≡ Some told
-when_above m n told h = let e : ltb m n ≡ true = grind (arith, nat_tests) in ap (λ b. when b told) e
-
-pub when_not_above : (m n : ℕ) (told : Told) → n ≤ m → when (ltb m n) told ≡ None
-when_not_above m n told h = let e : ltb m n ≡ false = grind (arith, nat_tests) in ap (λ b. when b told) e
-
-pub not_above : (m n : ℕ) (told : Told) → when (ltb m n) told ≡ None → n ≤ m
-not_above m n told e = elim (cases_Bool (ltb m n)) [
-  | inl t ↦ (let z : ◌≡◌ {A = ℕ} 0 1 = cc in absurd (omega arith))
-  | inr f ↦ grind (arith, nat_tests)
-]
-
--- causes that are not there can be passed over
-pub past : (before rest : List (Option Told)) → AllByRecursion (λ cause. cause ≡ None) before → first_of (before ++ rest) ≡ first_of rest
-past [] rest none = refl
-past (cause ∷ before) rest none = ap (λ c. first_of (c ∷ (before ++ rest))) none.0 ∙ past before rest none.1
 
 -- a check that ended with a refusal, handed on as it was
 pub handed_on : {X : Type 0} (refusal : Option Told) (r : Result X RunFault) (fault : RunFault) → r ≡ Err fault → refusal ≡ Some (run_told fault) → Checks refusal r
@@ -49,3 +15,25 @@ handed_on refusal r fault is e = subst (Checks refusal) (sym is) e
 
 pub gives_none : {X : Type 0} (x : X) (r : Result X RunFault) (fault : RunFault) → r ≡ Err fault → Gives x r
 gives_none x r fault is = subst (Gives x) (sym is) tt
+
+-- what was taken is the rows, at most 256
+pub taken : {X : Type 0} (n : ℕ) (rows batch : X) (r : Result X RunFault) → (if nat_le n 256 then Some rows else None) ≡ result_ok r → r ≡ Ok batch → (n ≤ 256) × (batch ≡ rows)
+taken {X} n rows batch r is ok = elim (cases_Bool (nat_le n 256)) [
+  | inl t ↦
+      let e : ◌≡◌ {A = Option X} (Some rows) (Some batch) = sym (ap (λ b. if b then Some rows else None) t) ∙ is ∙ ap result_ok ok in
+      (grind (arith, nat_tests), cc)
+  | inr f ↦
+      let e : ◌≡◌ {A = Option X} None (Some batch) = sym (ap (λ b. if b then Some rows else None) f) ∙ is ∙ ap result_ok ok in
+      let z : ◌≡◌ {A = ℕ} 0 1 = cc in absurd (omega arith)
+]
+
+-- what was not taken is too long
+pub not_taken : {X : Type 0} (n : ℕ) (rows : X) (fault why : RunFault) (r : Result X RunFault) → r ≡ ok_or (if nat_le n 256 then Some rows else None) fault → r ≡ Err why → (256 < n) × (why ≡ fault)
+not_taken {X} n rows fault why r is err = elim (cases_Bool (nat_le n 256)) [
+  | inl t ↦
+      let e : ◌≡◌ {A = Result X RunFault} (Err why) (Ok rows) = sym err ∙ is ∙ ap (λ b. ok_or (if b then Some rows else None) fault) t in
+      let z : ◌≡◌ {A = ℕ} 0 1 = cc in absurd (omega arith)
+  | inr f ↦
+      let e : ◌≡◌ {A = Result X RunFault} (Err why) (Err fault) = sym err ∙ is ∙ ap (λ b. ok_or (if b then Some rows else None) fault) f in
+      (grind (arith, nat_tests), cc)
+]

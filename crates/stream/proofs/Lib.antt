@@ -1,5 +1,6 @@
 pub mod Accepted
 pub mod Checks
+pub mod LastKeys
 pub mod Leaving
 pub mod Lengths
 pub mod Lined

@@ -1,12 +1,9 @@
 -- A run as the lists that it holds, and what its calls promise.
 use Rattle.std.specs.Prelude.{◌≡◌, ℕ, List, ◌++◌, length, drop, Some, None, Ok, Err, Option, Result}
-use Rattle.std.specs.List.{AllByRecursion}
-use Rattle.keys.specs.declared.key.Key as key
-use Rattle.keys.specs.declared.key.OrderedKey as ordered
-use Rattle.figures.specs.declared.cells.Outcome.{Outcome}
+use Rattle.std.specs.List.{AllByRecursion, All}
 use Rattle.figures.specs.declared.figure.Figure as figure
 use Rattle.figures.specs.declared.set.FigureSet.{FigureSet}
-use Rattle.figures.specs.Cells.{CellFits}
+use Rattle.figures.specs.Cells.{CellFits, Outcome}
 use Rattle.searchers.specs.declared.search.PartitionSearcher as searcher
 use Rattle.searchers.specs.declared.rows.Row.{Row}
 use Rattle.faults.specs.declared.run.RunFault.{RunFault}
@@ -16,7 +13,7 @@ use Rattle.tables.specs.declared.rows.OutRow.{OutRow}
 use Rattle.tables.specs.Whole.{lists}
 use Rattle.aggregates.specs.declared.progress.Progress.{Progress}
 use Rattle.aggregates.specs.Sets.{set_figures}
-use Rattle.book.specs.Calls.{Settings, View, After, fresh, pushed, finished_by}
+use Rattle.book.specs.Calls.{Kind, Settings, View, After, fresh, pushed, finished_by}
 use Rattle.stream.specs.declared.run.BoundedWindowAggStream.{BoundedWindowAggStream}
 
 -- what a run holds
@@ -28,18 +25,18 @@ abbrev pub answer : {X : Type 0} → Option Told → List X → Result ℕ Told
 answer None put = Ok (length put)
 answer (Some told) put = Err told
 
-module _ {K S F : Type 0} (k : key.Ghosts K) (o : ordered.Ghosts K) (s : searcher.Ghosts S K) (f : figure.Ghosts F) where
+module _ {K S F : Type 0} (k : Kind K) (s : searcher.Ghosts S K) (f : figure.Ghosts F) where
   -- the meaning of a run's settings: those of its key kind, its searcher's mode and its figures
   abbrev pub settings : S → FigureSet F → Settings K (List Outcome) Progress
-  settings by set = record { kind = record { same = k.same; order = o.order; parts = o.parts }; mode = s.mode by; figures = set_figures f set }
+  settings by set = record { kind = k; mode = s.mode by; figures = set_figures f set }
 
   abbrev pub settings_of : BoundedWindowAggStream K S F → Settings K (List Outcome) Progress
-  settings_of r = settings r.searcher r.set
+  settings_of r = settings r.settings.searcher r.settings.set
 
   -- a run that was made: it has the searcher and the figures of its settings, and holds nothing
   pub record Makes (by : S) (set : FigureSet F) (r : BoundedWindowAggStream K S F) : Type 0 where
-    pub searcher_is : r.searcher ≡ by
-    pub set_is : r.set ≡ set
+    pub searcher_is : r.settings.searcher ≡ by
+    pub set_is : r.settings.set ≡ set
     pub holds : view r ≡ fresh
 
   -- what a call answered and left in the run and the output, against what it has to
@@ -47,8 +44,8 @@ module _ {K S F : Type 0} (k : key.Ghosts K) (o : ordered.Ghosts K) (s : searche
       (after : BoundedWindowAggStream K S F) (out' : List (OutRow K (List Outcome))) (a : After K (List Outcome) Progress) : Type 0 where
     pub answers : answered run_told told ≡ answer a.fault a.put
     pub holds : view after ≡ a.view
-    pub searcher_stays : after.searcher ≡ before.searcher
-    pub set_stays : after.set ≡ before.set
+    pub searcher_stays : after.settings.searcher ≡ before.settings.searcher
+    pub set_stays : after.settings.set ≡ before.settings.set
     -- the rows out in the first places, and every other place as it was
     pub writes : out' ≡ a.put ++ drop (length a.put) out
     -- a refused call leaves the run as it was
@@ -58,7 +55,7 @@ module _ {K S F : Type 0} (k : key.Ghosts K) (o : ordered.Ghosts K) (s : searche
       (after : BoundedWindowAggStream K S F) (out' : List (OutRow K (List Outcome))) : Type 0 where
     pub leaves : Leaves before out told after out' (pushed (settings_of before) (view before) batch (length out))
     -- the rows' numbers have 32 bits
-    pub fits : AllByRecursion (λ row. AllByRecursion CellFits row.cells) batch
+    pub fits : AllByRecursion (λ row. All CellFits row.cells) batch
 
   abbrev pub Finishes : BoundedWindowAggStream K S F → List (OutRow K (List Outcome)) → Result ℕ RunFault
       → BoundedWindowAggStream K S F → List (OutRow K (List Outcome)) → Type 0

@@ -2,8 +2,6 @@
 ghost use Rattle.std.specs.Prelude.{◌≡◌, ◌+◌, ◌^◌, ◌<◌, ◌≤◌, true, ◌++◌, map, length, take, drop};
 ghost use Rattle.faults.specs.Causes.{first_of};
 ghost use Rattle.searchers.specs.Ends.{ended_at};
-ghost use Rattle.searchers.specs.Groups.{grouped};
-ghost use Rattle.searchers.specs.Order.{keys_of};
 ghost use Rattle.tables.specs.Lists.{within, held_keys, distinct, none, out_row, let_go};
 ghost use Rattle.tables.specs.Whole.{lists};
 ghost use Rattle.aggregates.specs.Sets.{set_figures};
@@ -17,31 +15,29 @@ use figures::cells::Outcome;
 use figures::figure::Figure;
 use figures::set::FigureSet;
 use keys::key::{Key, OrderedKey};
-use searchers::groups::Groups;
-use searchers::rows::Row;
 use searchers::search::PartitionSearcher;
+use settings::checked::Settings;
+use tables::batch::Batch;
 use tables::rows::OutRow;
 use tables::tables::Tables;
 
 // Whether there is room for a batch: in each table, and in an output of so many places.
 pub(crate) fn check_room<K: Key>(
     tables: &Tables<K, [Outcome; 4], Progress>,
-    batch: &[Row<K>],
-    groups: &Groups,
+    batch: &Batch<'_, K>,
     places: usize,
 ) -> Result<(), RunFault>
-    requires short { length batch.now ≤ 256 }
-    requires grouped { groups.now ≡ grouped K.Key.same (keys_of batch.now) }
-    ensures { Checks (first_of (room_causes K.Key.same (length (lists tables.now).waiting) (length (lists tables.now).kept) (held_keys (lists tables.now).held) batch.now places)) result }
+    ensures { Checks (first_of (room_causes K.eq (length (lists tables.now).waiting) (length (lists tables.now).kept) (held_keys (lists tables.now).held) batch.now places)) result }
 {
-    let waiting = tables.waiting.len() + batch.len();
+    let rows = batch.rows();
+    let waiting = tables.waiting.len() + rows.len();
     if waiting > 512 {
         return Err(RunFault::WaitingFull);
     }
-    if tables.kept.len() + batch.len() > 1024 {
+    if tables.kept.len() + rows.len() > 1024 {
         return Err(RunFault::KeptFull);
     }
-    if tables.keys_with(batch, groups) > 64 {
+    if tables.keys_with(batch) > 64 {
         return Err(RunFault::KeysFull);
     }
     if places < waiting {
@@ -53,55 +49,53 @@ pub(crate) fn check_room<K: Key>(
 // The rows of a batch join the tables, ended keys are marked, and every result that is due is worked out.
 pub(crate) fn ready<K: OrderedKey, S: PartitionSearcher<K>, F: Figure>(
     tables: &mut Tables<K, [Outcome; 4], Progress>,
-    searcher: &S,
-    set: &FigureSet<F>,
+    settings: &Settings<K, S, F>,
     accepted: u32,
-    batch: &[Row<K>],
-    groups: &Groups,
+    batch: &Batch<'_, K>,
     last: &Option<K>,
 )
-    requires short { length batch.now ≤ 256 }
-    requires grouped { groups.now ≡ grouped K.Key.same (keys_of batch.now) }
     requires waiting { length (lists tables.old).waiting + length batch.now ≤ 512 }
     requires kept { length (lists tables.old).kept + length batch.now ≤ 1024 }
-    requires held { length (distinct K.Key.same (held_keys (lists tables.old).held) batch.now) ≤ 64 }
+    requires held { length (distinct K.eq (held_keys (lists tables.old).held) batch.now) ≤ 64 }
     requires counts { within accepted (lists tables.old).held ≡ true }
     requires fits { accepted + length batch.now < 2 ^ 32 }
-    ensures { lists tables.new ≡ readied_with K.Key.same (set_figures F.Figure set.now) (ended_at (S.PartitionSearcher.mode searcher.now) K.Key.same K.OrderedKey.parts last.now) (lists tables.old) batch.now }
+    ensures { lists tables.new ≡ readied_with K.eq (set_figures F.Figure settings.now.set) (ended_at (S.PartitionSearcher.mode settings.now.searcher) K.eq K.OrderedKey.parts last.now) (lists tables.old) batch.now }
 {
-    tables.admit(&start_of(set), &blank(), accepted, batch, groups);
-    tables.mark_partition_end(searcher, last);
-    compute_aggregates(set, tables);
+    tables.admit(&start_of(settings.set()), &blank(), accepted, batch);
+    tables.mark_partition_end(settings.searcher(), last);
+    compute_aggregates(settings.set(), tables);
 }
 
 // How many waiting rows leave, as the searcher says.
 fn n_out_row<K: OrderedKey, S: PartitionSearcher<K>, F: Figure>(
     tables: &Tables<K, [Outcome; 4], Progress>,
-    searcher: &S,
-    set: &FigureSet<F>,
+    settings: &Settings<K, S, F>,
 ) -> usize
-    ensures count { result ≡ leaving (set_figures F.Figure set.now).ahead (lists tables.now) }
+    ensures count { result ≡ leaving (set_figures F.Figure settings.now.set).ahead (lists tables.now) }
     ensures few { result ≤ length (lists tables.now).waiting }
 {
-    searcher.calculate_n_out_row(tables.waiting.places(), tables.held.places(), set)
+    settings.searcher().calculate_n_out_row(
+        tables.waiting.places(),
+        tables.held.places(),
+        settings.set(),
+    )
 }
 
 // The settled rows leave, and the tables let go of what is no longer needed.
 pub(crate) fn let_leave<K: OrderedKey, S: PartitionSearcher<K>, F: Figure>(
     tables: &mut Tables<K, [Outcome; 4], Progress>,
-    searcher: &S,
-    set: &FigureSet<F>,
+    settings: &Settings<K, S, F>,
     out: &mut [OutRow<K, [Outcome; 4]>],
 ) -> usize
     requires { length (lists tables.old).waiting ≤ length out.old }
-    ensures count { result ≡ leaving (set_figures F.Figure set.now).ahead (lists tables.old) }
+    ensures count { result ≡ leaving (set_figures F.Figure settings.now.set).ahead (lists tables.old) }
     ensures few { result ≤ length (lists tables.old).waiting }
-    ensures tables { lists tables.new ≡ let_go (set_figures F.Figure set.now).reach result (lists tables.old) }
+    ensures tables { lists tables.new ≡ let_go (set_figures F.Figure settings.now.set).reach result (lists tables.old) }
     ensures out { out.new ≡ map out_row (take result (lists tables.old).waiting) ++ drop result out.old }
 {
-    let n = n_out_row(tables, searcher, set);
+    let n = n_out_row(tables, settings);
     tables.put_out(n, out);
-    tables.release(n, set.reach());
+    tables.release(n, settings.set().reach());
     n
 }
 

@@ -5,16 +5,16 @@ ghost use Rattle.tables.specs.Lists.{within};
 
 use aggregates::progress::Progress;
 use figures::cells::Outcome;
-use figures::set::FigureSet;
+use settings::checked::Settings;
 use tables::tables::Tables;
 
 pub mod calls;
 
-// A run: its settings' searcher and figures, its tables, the key of the last accepted row, and how many rows were accepted and put out.
+// A run: its settings, its tables, the key of the last accepted row, and how many rows were accepted and put out.
+#[derive(Drop)]
 pub struct BoundedWindowAggStream<K, S, F> {
     tables: Tables<K, [Outcome; 4], Progress>,
-    searcher: S,
-    set: FigureSet<F>,
+    settings: Settings<K, S, F>,
     last: Option<K>,
     accepted: u32,
     out: u32,

@@ -2,7 +2,7 @@
 use Rattle.std.proofs.Common.{◌≡◌, suc, ◌<◌, ◌≤◌, Bool, true, false, cond, List, [], ◌∷◌, ◌++◌, length, get_or, sym, refl, ap, ◌∙◌, inl, inr, arith}
 use Rattle.std.proofs.lemmas.List.{length_push}
 use Rattle.std.proofs.lemmas.Bool.{cases_Bool, cases_lt, both_ways}
-use Rattle.keys.specs.Laws.{Equality}
+use Rattle.std.specs.Cmp.{IsEquivalence}
 use Rattle.searchers.specs.Groups.{place, noticed}
 use Rattle.searchers.proofs.Places.{noticed_new, noticed_old}
 
@@ -79,14 +79,14 @@ module _ {K : Type 0} (same : K → K → Bool) where
           | inr new ↦ omega (arith, place_le k ss, ap length (noticed_new same k ss (omega (arith, place_le k ss))), length_push ss k)
         ]
 
-  module _ (equality : Equality same) where
+  module _ (equality : IsEquivalence same) where
     pub same_alike : (s k : K) → same s k ≡ true → (e : K) → same e k ≡ same e s
     same_alike s k t e =
         elim (cases_Bool (same e s)) [
-          | inl u ↦ equality.chain e s k u t ∙ sym u
+          | inl u ↦ (equality.congr e s k u ∙ t) ∙ sym u
           | inr f ↦
               elim (cases_Bool (same e k)) [
-                | inl u ↦ absurd (both_ways (same e s) f (equality.chain e k s u (equality.back s k t)))
+                | inl u ↦ absurd (both_ways (same e s) f (equality.congr e k s u ∙ equality.symm k s ∙ t))
                 | inr g ↦ g ∙ sym f
               ]
         ]

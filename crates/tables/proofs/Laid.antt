@@ -1,9 +1,9 @@
 -- A table's places as they are laid out from a list, and edits of them.
-use Rattle.std.proofs.Common.{◌≡◌, ℕ, zero, suc, ◌+◌, ◌-◌, ◌<◌, ◌≤◌, List, [], ◌∷◌, ◌++◌, map, length, get_or, take, set, replicate, Some, None, Option, sym, refl, ap, ◌∙◌, arith, length-append, length-set, length-take-le}
+use Rattle.std.proofs.Common.{◌≡◌, ℕ, zero, suc, ◌+◌, ◌-◌, ◌<◌, ◌≤◌, List, [], ◌∷◌, ◌++◌, map, length, get_or, take, drop, set, replicate, Some, None, Option, sym, refl, ap, ◌∙◌, arith, length-append, length-set, length-take-le, length-drop}
 use lib.ListN.{length-map, length-replicate}
-use Rattle.std.proofs.lemmas.List.{append-nil, map-set, set-append_left, get_or_append_left, length_push}
-use Rattle.std.specs.Option.{option_map}
-use Rattle.tables.specs.Altered.{altered}
+use lib.Seq.{paste}
+use Rattle.std.specs.List.{slice_get}
+use Rattle.std.proofs.lemmas.List.{append-nil, append_assoc, map-append, map-set, set-append_left, get_or_append_left, length_push, take_at, take-append-le, take-map, drop_at, drop-append-le, drop-map, replicate-append-replicate}
 use Rattle.tables.specs.Places.{somes, laid}
 
 somes_front : {X : Type 0} (xs : List X) (places : List (Option X)) → somes (map Some xs ++ places) ≡ xs ++ somes places
@@ -24,8 +24,9 @@ blank_laid n = let all : n ≡ n - 0 = omega arith in ap (λ k. replicate k None
 pub somes_of : {X : Type 0} (n : ℕ) (places : List (Option X)) (xs : List X) → places ≡ laid n xs → somes places ≡ xs
 somes_of n places xs e = ap somes e ∙ somes_laid n xs
 
-pub laid_own : {X : Type 0} (n : ℕ) (places : List (Option X)) (xs : List X) → places ≡ laid n xs → places ≡ laid n (somes places)
-laid_own n places xs e = e ∙ ap (laid n) (sym (somes_of n places xs e))
+pub laid_table : {X : Type 0} (n : ℕ) (places : List (Option X)) (xs : List X) {len : ℕ} → places ≡ laid n xs → len ≡ length xs → len ≤ n
+    → record { packed : places ≡ laid n (somes places); count : len ≡ length (somes places); few : len ≤ n }
+laid_table n places xs e long few = record { packed = e ∙ ap (laid n) (sym (somes_of n places xs e)); count = long ∙ sym (ap length (somes_of n places xs e)); few = few }
 
 pub laid_size : {X : Type 0} (n : ℕ) (xs : List X) → length xs ≤ n → length (laid n xs) ≡ n
 laid_size {X} n xs h =
@@ -53,52 +54,50 @@ push_laid n xs x h =
     ap (λ k. set (map Some xs ++ replicate k None) (length xs) (Some x)) blank
     ∙ push_front xs (n - length (xs ++ x ∷ [])) x
 
-pop_front : {X : Type 0} (x : X) (xs : List X) (k : ℕ) → set (map Some (x ∷ xs) ++ replicate k None) (length xs) None ≡ map Some (take (length xs) (x ∷ xs)) ++ replicate (suc k) None
-pop_front x [] k = refl
-pop_front x (y ∷ ys) k = ap (λ l. Some x ∷ l) (pop_front y ys k)
-
-pub pop_laid : {X : Type 0} (n : ℕ) (xs : List X) (i : ℕ) → length xs ≤ n → length xs ≡ i + 1 → set (laid n xs) i None ≡ laid n (take i xs)
-pop_laid n [] i h e = absurd (omega arith)
-pop_laid n (x ∷ xs) i h e =
-    let k : i ≡ length xs = omega arith in
-    let long : length (take (length xs) (x ∷ xs)) ≡ length xs = length-take-le (length xs) (x ∷ xs) (omega arith) in
-    let blank : suc (n - length (x ∷ xs)) ≡ n - length (take (length xs) (x ∷ xs)) = omega arith in
-    ap (λ j. set (laid n (x ∷ xs)) j None) k
-    ∙ pop_front x xs (n - length (x ∷ xs))
-    ∙ ap (λ j. map Some (take (length xs) (x ∷ xs)) ++ replicate j None) blank
-    ∙ ap (λ j. laid n (take j (x ∷ xs))) (sym k)
-
-some_there : {X : Type 0} (xs : List X) (i : ℕ) (x : X) → Some x ≡ get_or (map Some xs) i (Some x) → x ≡ get_or xs i x
-some_there [] i x e = refl
-some_there (y ∷ ys) zero x e = cc
-some_there (y ∷ ys) (suc i) x e = some_there ys i x e
-
-none_there : {X : Type 0} (xs : List X) (i : ℕ) → i < length xs → None ≡ get_or (map Some xs) i None → ⊥
-none_there [] i h e = omega arith
-none_there (x ∷ xs) zero h e = let z : ◌≡◌ {A = ℕ} 0 1 = cc in omega arith
-none_there (x ∷ xs) (suc i) h e = let k : i < length xs = omega arith in none_there xs i k e
+pub front_get : {X : Type 0} (xs : List X) (i : ℕ) (o : Option X) → i < length xs → o ≡ get_or (map Some xs) i o → o ≡ slice_get xs i
+front_get [] i o h e = absurd (omega arith)
+front_get (x ∷ xs) zero o h e = e
+front_get (x ∷ xs) (suc i) o h e = let k : i < length xs = omega arith in front_get xs i o k e
 
 -- what is read below the length
-module _ {X : Type 0} (n : ℕ) (xs : List X) (i : ℕ) where
-  read_front : i < length xs → (o : Option X) → get_or (laid n xs) i o ≡ get_or (map Some xs) i o
-  read_front h o = get_or_append_left (map Some xs) (replicate (n - length xs) None) o i (simp length-map h)
+pub laid_get : {X : Type 0} (n : ℕ) (xs : List X) (i : ℕ) (o : Option X) → i < length xs → o ≡ get_or (laid n xs) i o → o ≡ slice_get xs i
+laid_get n xs i o h e =
+    front_get xs i o h (e ∙ get_or_append_left (map Some xs) (replicate (n - length xs) None) o i (simp length-map h))
 
-  pub some_read : (x : X) → i < length xs → Some x ≡ get_or (laid n xs) i (Some x) → x ≡ get_or xs i x
-  some_read x h e = some_there xs i x (e ∙ read_front h (Some x))
+-- the front of what is laid out, and what is behind it
+pub take_laid : {X : Type 0} (n : ℕ) (xs : List X) (k : ℕ) → k ≤ length xs → take k (laid n xs) ≡ map Some (take k xs)
+take_laid n xs k h = take-append-le k (map Some xs) (replicate (n - length xs) None) (simp length-map h) ∙ take-map Some k xs
 
-  pub none_read : i < length xs → None ≡ get_or (laid n xs) i None → ⊥
-  none_read h e = none_there xs i h (e ∙ read_front h None)
+pub drop_laid : {X : Type 0} (n : ℕ) (xs : List X) (k : ℕ) → k ≤ length xs → drop k (laid n xs) ≡ map Some (drop k xs) ++ replicate (n - length xs) None
+drop_laid n xs k h =
+    drop-append-le k (map Some xs) (replicate (n - length xs) None) (simp length-map h)
+    ∙ ap (λ l. l ++ replicate (n - length xs) None) (drop-map Some k xs)
 
-pub alter_set : {X : Type 0} (f : X → X) (xs : List X) (i : ℕ) (x : X) → i < length xs → x ≡ get_or xs i x → set xs i (f x) ≡ altered f i xs
-alter_set f [] i x h e = refl
-alter_set f (y ∷ ys) zero x h e = ap (λ z. f z ∷ ys) e
-alter_set f (y ∷ ys) (suc i) x h e = let k : i < length ys = omega arith in ap (λ l. y ∷ l) (alter_set f ys i x k e)
+-- the places from k on, up to the length, made blank
+pub cut_laid : {X : Type 0} (n : ℕ) (xs : List X) (k : ℕ) → k ≤ length xs → length xs ≤ n
+    → take k (laid n xs) ++ (replicate (length xs - k) None ++ drop (length xs - k) (drop k (laid n xs))) ≡ laid n (take k xs)
+cut_laid {X} n xs k h few =
+    let behind : List (Option X) = replicate (n - length xs) None in
+    let back : List (Option X) = map Some (drop k xs) in
+    let long : length back ≡ length xs - k = length-map (drop k xs) Some ∙ length-drop k xs in
+    let all : (length xs - k) + (n - length xs) ≡ n - length (take k xs) = omega (arith, length-take-le k xs h) in
+    ap (λ l. l ++ (replicate (length xs - k) None ++ drop (length xs - k) (drop k (laid n xs)))) (take_laid n xs k h)
+    ∙ ap (λ l. map Some (take k xs) ++ (replicate (length xs - k) None ++ l)) (ap (drop (length xs - k)) (drop_laid n xs k h) ∙ drop_at back behind (length xs - k) long)
+    ∙ ap (λ l. map Some (take k xs) ++ l) (replicate-append-replicate {A = Option X} (length xs - k) (n - length xs) None ∙ ap (λ m. replicate {A = Option X} m None) all)
 
-pub length_altered : {X : Type 0} (f : X → X) (i : ℕ) (xs : List X) → length (altered f i xs) ≡ length xs
-length_altered f i [] = refl
-length_altered f zero (x ∷ xs) = refl
-length_altered f (suc i) (x ∷ xs) = ap suc (length_altered f i xs)
-
-pub alter_laid : {X : Type 0} (f : X → X) (n : ℕ) (xs : List X) (i : ℕ) → i < length xs → (o : Option X) → o ≡ get_or (laid n xs) i o → set (laid n xs) i (option_map f o) ≡ laid n (altered f i xs)
-alter_laid f n xs i h (Some x) is = set_laid n xs i (f x) h ∙ ap (laid n) (alter_set f xs i x h (some_read n xs i x h is))
-alter_laid f n xs i h None is = absurd (none_read n xs i h is)
+-- the places from k on, up to the length, copied to the front
+pub shift_laid : {X : Type 0} (n : ℕ) (xs : List X) (k m : ℕ) → k + m ≡ length xs → paste (laid n xs) 0 (drop k (laid n xs)) m ≡ laid n (drop k xs ++ drop m xs)
+shift_laid {X} n xs k m both =
+    let behind : List (Option X) = replicate (n - length xs) None in
+    let low : k ≤ length xs = omega arith in
+    let less : m ≤ length xs = omega arith in
+    let long : length (map Some (drop k xs)) ≡ m = length-map (drop k xs) Some ∙ length-drop k xs ∙ omega arith in
+    let none : 0 + m ≡ m = omega arith in
+    let same : length xs ≡ length (drop k xs ++ drop m xs) = omega (arith, length-append (drop k xs) (drop m xs), length-drop k xs, length-drop m xs) in
+    ap (λ j. take m (drop k (laid n xs)) ++ drop j (laid n xs)) none
+    ∙ ap (λ l. take m l ++ drop m (laid n xs)) (drop_laid n xs k low)
+    ∙ ap (λ l. l ++ drop m (laid n xs)) (take_at (map Some (drop k xs)) behind m long)
+    ∙ ap (λ l. map Some (drop k xs) ++ l) (drop_laid n xs m less)
+    ∙ sym (append_assoc (map Some (drop k xs)) (map Some (drop m xs)) behind)
+    ∙ ap (λ l. l ++ behind) (sym (map-append Some (drop k xs) (drop m xs)))
+    ∙ ap (λ j. map Some (drop k xs ++ drop m xs) ++ replicate (n - j) None) same

@@ -4,8 +4,9 @@ pub mod Edits
 pub mod Holding
 pub mod Keys
 pub mod Laid
-pub mod Moving
+pub mod Lent
 pub mod Numbering
 pub mod Over
 pub mod Pruning
 pub mod Tallying
+pub mod Turns

@@ -1,12 +1,13 @@
 -- How many different keys there are, from the first rows of groups.
-use Rattle.std.proofs.Common.{◌≡◌, ℕ, suc, ◌+◌, ◌-◌, ◌<◌, ◌≤◌, Bool, true, false, cond, ◌||◌, ltb, List, [], ◌∷◌, ◌++◌, length, get_or, drop, replicate, sym, refl, ap, ◌∙◌, inl, inr, arith}
+use Rattle.std.proofs.Common.{◌≡◌, ℕ, suc, ◌+◌, ◌-◌, ◌<◌, ◌≤◌, Bool, true, false, cond, ◌||◌, ltb, List, [], ◌∷◌, ◌++◌, length, get_or, take, drop, replicate, sym, refl, ap, ◌∙◌, inl, inr, arith}
 use lib.ListN.{length-map}
 use Rattle.std.specs.List.{AllByRecursion}
 use Rattle.std.proofs.ByRecursion.{All-get_or}
-use Rattle.std.proofs.lemmas.List.{append_assoc, length_push, get_or_append_left, at_drop_more, at_drop_all}
+use Rattle.std.proofs.lemmas.List.{append_assoc, length_push, take_at, at_drop_more, at_drop_all}
 use Rattle.std.proofs.lemmas.Bool.{cases_Bool, cases_lt, lt-ltb, le-ltb, cond_both}
-use Rattle.keys.specs.Laws.{Equality}
-use Rattle.searchers.specs.Groups.{place, noticed, group_firsts, padded}
+use Rattle.std.specs.Cmp.{IsEquivalence}
+use Rattle.searchers.specs.Groups.{place, noticed, group_firsts, padded, grouped}
+use Rattle.searchers.specs.declared.groups.Groups.{Groups}
 use Rattle.searchers.specs.Order.{keys_of}
 use Rattle.searchers.specs.declared.rows.Row.{Row}
 use Rattle.searchers.proofs.Places.{noticed_new, noticed_old}
@@ -35,6 +36,9 @@ cond_or false false = refl
 value_behind : {X Y : Type 0} (f : X → Y) (d : Y) (front : List X) (x : X) (xs : List X) (i : ℕ) → length front ≡ i → value_at f d (front ++ x ∷ xs) i ≡ f x
 value_behind f d [] x xs i e = ap (value_at f d (x ∷ xs)) (sym e)
 value_behind f d (y ∷ ys) x xs i e = ap (value_at f d (y ∷ (ys ++ x ∷ xs))) (sym e) ∙ value_behind f d ys x xs (length ys) refl
+
+padded_front : (xs : List ℕ) → take (length xs) (padded xs) ≡ xs
+padded_front xs = take_at xs (replicate (256 - length xs) 256) (length xs) refl
 
 module _ {K : Type 0} (same : K → K → Bool) where
   -- whether a key is among some
@@ -106,7 +110,7 @@ module _ {K : Type 0} (same : K → K → Bool) where
     pub tally_end : (ps : List ℕ) (g : ℕ) → length ps ≤ g → tally (drop g ps) ≡ 0
     tally_end ps g h = at_drop_all tally ps g h
 
-  module _ (equality : Equality same) where
+  module _ (equality : IsEquivalence same) where
     among_alike : (s k : K) → same s k ≡ true → (ss : List K) → among k ss ≡ among s ss
     among_alike s k t [] = refl
     among_alike s k t (e ∷ ss) = ap (λ b. b || among k ss) (same_alike same equality s k t e) ∙ ap (λ b. same e s || b) (among_alike s k t ss)
@@ -150,7 +154,7 @@ module _ {K : Type 0} (same : K → K → Bool) where
       let rest = firsts_low n (noticed same k seen) (i + 1) keys (omega arith) in
       cond_both (ltb (place same k seen) (length seen)) _ _ (AllByRecursion (λ p. p < n)) (λ _. rest) (λ _. (omega arith, rest))
 
-  pub firsts_few : (seen : List K) (i : ℕ) (keys : List K) → length (group_firsts same seen i keys) ≤ length keys
+  firsts_few : (seen : List K) (i : ℕ) (keys : List K) → length (group_firsts same seen i keys) ≤ length keys
   firsts_few seen i [] = omega arith
   firsts_few seen i (k ∷ keys) =
       let rest = firsts_few (noticed same k seen) (i + 1) keys in
@@ -161,5 +165,13 @@ module _ {K : Type 0} (same : K → K → Bool) where
       let long : length (keys_of batch) ≡ length batch = length-map batch (λ r. r.key) in
       All-get_or (λ p. p < length batch) (group_firsts same [] 0 (keys_of batch)) g 0 h (firsts_low (length batch) [] 0 (keys_of batch) (omega arith))
 
-pub padded_read : (xs : List ℕ) (g : ℕ) → g < length xs → get_or (padded xs) g 0 ≡ get_or xs g 0
-padded_read xs g h = get_or_append_left xs (replicate (256 - length xs) 256) 0 g h
+  -- the first rows of the groups stand in front
+  pub front_is : (batch : List (Row K)) (groups : Groups) → groups ≡ grouped same (keys_of batch) → take groups.count groups.firsts ≡ group_firsts same [] 0 (keys_of batch)
+  front_is batch groups is = ap (λ groups. take groups.count groups.firsts) is ∙ padded_front (group_firsts same [] 0 (keys_of batch))
+
+  -- there are no more groups than rows
+  pub count_low : (batch : List (Row K)) (groups : Groups) → groups ≡ grouped same (keys_of batch) → groups.count ≤ length batch
+  count_low batch groups is = omega (arith, ap (λ groups. groups.count) is, firsts_few [] 0 (keys_of batch), length-map batch (λ r. r.key))
+
+  pub front_low : (batch : List (Row K)) (groups : Groups) → groups ≡ grouped same (keys_of batch) → length (take groups.count groups.firsts) ≤ length batch
+  front_low batch groups is = omega (arith, ap length (front_is batch groups is), firsts_few [] 0 (keys_of batch), length-map batch (λ r. r.key))

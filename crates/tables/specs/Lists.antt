@@ -1,5 +1,5 @@
 -- The lists that the three tables of a run hold, and what a call does to them.
-use Rattle.std.specs.Prelude.{ℕ, zero, suc, ◌+◌, Bool, true, false, cond, not, ◌&&◌, ◌||◌, List, [], ◌∷◌, ◌++◌, map, length, drop, fold, filter, nat_eq, nat_le, nat_lt}
+use Rattle.std.specs.Prelude.{ℕ, zero, suc, ◌+◌, Bool, true, false, not, ◌&&◌, ◌||◌, List, [], ◌∷◌, ◌++◌, map, length, drop, fold, filter, nat_eq, nat_le, nat_lt, if◌then◌else◌}
 use Rattle.searchers.specs.declared.rows.Row.{Row}
 use Rattle.searchers.specs.declared.rows.Waiting.{Waiting}
 use Rattle.searchers.specs.declared.rows.Held.{Held}
@@ -49,7 +49,7 @@ new_key start key = record { key = key; rows = 1; ended = false; progress = star
 -- the key's entry, or a new one at the end, has one row more
 abbrev pub counted_in : {K P : Type 0} → (K → K → Bool) → P → K → List (Held K P) → List (Held K P)
 counted_in same start key [] = new_key start key ∷ []
-counted_in same start key (e ∷ held) = cond (same e.key key) (one_more e ∷ held) (e ∷ counted_in same start key held)
+counted_in same start key (e ∷ held) = if same e.key key then one_more e ∷ held else e ∷ counted_in same start key held
 
 -- a row joins the waiting and the kept rows, with its key's place; its rank is the number of its key's rows before it
 abbrev pub admitted : {K R P : Type 0} → (K → K → Bool) → P → R → Lists K R P → Row K → Lists K R P
@@ -87,15 +87,15 @@ of_place p kept = filter (λ k. nat_eq k.place p) kept
 abbrev pub renumbered : {K P : Type 0} → List (Held K P) → ℕ → ℕ
 renumbered [] p = 0
 renumbered (e ∷ held) zero = 0
-renumbered (e ∷ held) (suc p) = cond e.ended (renumbered held p) (suc (renumbered held p))
+renumbered (e ∷ held) (suc p) = if e.ended then renumbered held p else suc (renumbered held p)
 
 -- the kept rows of ended keys go, and of each other key all but the last `reach`
 abbrev pub pruned : {K P : Type 0} → ℕ → List (Held K P) → List (Kept K) → List (Kept K)
 pruned reach held [] = []
 pruned reach held (k ∷ kept) =
-    cond (value_at (λ e. e.ended) true held k.place || not (nat_lt (length (of_place k.place kept)) reach))
-    (pruned reach held kept)
-    (record { row = k.row; place = renumbered held k.place } ∷ pruned reach held kept)
+    if value_at (λ e. e.ended) true held k.place || not (nat_lt (length (of_place k.place kept)) reach)
+    then pruned reach held kept
+    else record { row = k.row; place = renumbered held k.place } ∷ pruned reach held kept
 
 abbrev pub moved : {K R P : Type 0} → List (Held K P) → Waiting K R → Waiting K R
 moved held w = record { row = w.row; place = renumbered held w.place; rank = w.rank; results = w.results }

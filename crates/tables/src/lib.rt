@@ -1,6 +1,7 @@
 // The fixed tables of a run: waiting rows, kept rows and held keys, linked by number.
 #![tactic(auto)]
 
+pub mod batch;
 mod held;
 mod kept;
 mod numbers;

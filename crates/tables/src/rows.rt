@@ -2,6 +2,7 @@
 use searchers::rows::Row;
 
 // A kept row: results to come may look at it. Its place is that of its key among the held keys.
+// By place and not by a map or a list for each key: memory is fixed, and shared by all keys.
 #[derive(Clone, Copy)]
 pub struct Kept<K> {
     pub row: Row<K>,

@@ -10,7 +10,7 @@ const JOURNAL_BYTES: u64 = 65536;
 fn run(rt: &HostRuntime) -> anyhow::Result<()> {
     let mut journal = Vec::new(rt.alloc());
     rt.stdin().take(JOURNAL_BYTES).read_to_end(&mut journal)?;
-    rt.println("accepted 0 out 0 waiting 0")?;
+    println!(rt; "accepted 0 out 0 waiting 0")?;
     Ok(())
 }
 

@@ -1,10 +1,12 @@
 // What is done with a table, as with the list of what it holds.
-ghost use Rattle.std.specs.Prelude.{◌≡◌, ◌-◌, ◌<◌, ◌≤◌, [], ◌∷◌, ◌++◌, length, take, drop, slice_index_or, slice_set};
+ghost use Rattle.std.specs.Prelude.{◌≡◌, ◌<◌, ◌≤◌, [], ◌∷◌, ◌++◌, length, take, drop, slice_get, slice_set};
+ghost use Rattle.std.specs.Option.{option_copied};
 ghost use Rattle.tables.specs.Determined.{Determined};
 ghost use Rattle.tables.specs.Places.{laid};
-ghost use Rattle.tables.specs.Rows.{rows};
+ghost use Rattle.tables.specs.Rows.{rows, values_left};
 
 use super::Table;
+use super::iter::Iter;
 
 impl<T: Copy, const N: usize> Table<T, N> {
     pub fn new() -> Self
@@ -23,21 +25,15 @@ impl<T: Copy, const N: usize> Table<T, N> {
         self.len
     }
 
-    pub fn get(&self, i: usize) -> &T
-        requires { i < length (rows self.now) }
-        ensures { result.now ≡ slice_index_or (rows self.now) i result.now }
+    // What stands at a place; past the end there is nothing.
+    pub fn get(&self, i: usize) -> Option<&T>
+        ensures { option_copied result ≡ slice_get (rows self.now) i }
     {
-        match &self.places[i] {
-            Some(x) => x,
-            None => unreachable(),
+        if i < self.len {
+            self.places[i].as_ref()
+        } else {
+            None
         }
-    }
-
-    pub fn at(&self, i: usize) -> T
-        requires { i < length (rows self.now) }
-        ensures { result ≡ slice_index_or (rows self.now) i result }
-    {
-        *self.get(i)
     }
 
     pub fn places(&self) -> &[Option<T>]
@@ -46,11 +42,12 @@ impl<T: Copy, const N: usize> Table<T, N> {
         &self.places
     }
 
-    pub fn put(&mut self, i: usize, x: T)
-        requires { i < length (rows self.old) }
-        ensures { rows self.new ≡ slice_set (rows self.old) i x }
+    pub fn iter(&self) -> Iter<'_, T>
+        ensures { values_left result ≡ rows self.now }
     {
-        self.places[i] = Some(x);
+        Iter {
+            left: &self.places[..self.len],
+        }
     }
 
     pub fn push(&mut self, x: T)
@@ -61,35 +58,33 @@ impl<T: Copy, const N: usize> Table<T, N> {
         self.len += 1;
     }
 
-    // Removes the last.
-    pub(crate) fn pop(&mut self)
-        requires { 0 < length (rows self.old) }
-        ensures { rows self.new ≡ take (length (rows self.old) - 1) (rows self.old) }
+    // Puts a value in a place, where the table has that place.
+    pub fn put(&mut self, i: usize, x: T)
+        ensures { rows self.new ≡ slice_set (rows self.old) i x }
     {
-        let last = self.len - 1;
-        self.places[last] = None;
-        self.len = last;
+        if i < self.len {
+            self.places[i] = Some(x);
+        }
     }
 
     // Keeps the first n.
     pub fn truncate(&mut self, n: usize)
-        requires { n ≤ length (rows self.old) }
         ensures { rows self.new ≡ take n (rows self.old) }
     {
-        for _ in n..self.len() {
-            self.pop();
+        if n < self.len {
+            let places = &mut self.places[..];
+            places[n..self.len].fill(None);
+            self.len = n;
         }
     }
 
     // Removes the first n.
     pub fn drop_front(&mut self, n: usize)
-        requires { n ≤ length (rows self.old) }
         ensures { rows self.new ≡ drop n (rows self.old) }
     {
-        let left = self.len() - n;
-        for i in 0..left {
-            let x = self.at(i + n);
-            self.put(i, x);
+        let left = self.len.saturating_sub(n);
+        if left > 0 {
+            self.places.copy_within(n..self.len, 0);
         }
         self.truncate(left);
     }

@@ -5,16 +5,16 @@ ghost use Rattle.tables.specs.Lists.{mark};
 ghost use Rattle.tables.specs.Whole.{lists};
 
 use super::Tables;
-use crate::held::{mark_all, mark_by};
 use keys::key::{Key, OrderedKey};
 use searchers::search::PartitionSearcher;
 
 impl<K: OrderedKey, R: Copy, P: Copy> Tables<K, R, P> {
     // Marks each held key as ended or not; `last` is the key of the last accepted row, if there is one.
     pub fn mark_partition_end<S: PartitionSearcher<K>>(&mut self, searcher: &S, last: &Option<K>)
-        ensures { lists self.new ≡ mark (ended_at (S.PartitionSearcher.mode searcher.now) K.Key.same K.OrderedKey.parts last.now) (lists self.old) }
+        ensures { lists self.new ≡ mark (ended_at (S.PartitionSearcher.mode searcher.now) K.eq K.OrderedKey.parts last.now) (lists self.old) }
     {
-        mark_by(&mut self.held, searcher, last);
+        self.held
+            .for_each_mut(|entry| entry.ended = searcher.has_ended(&entry.key, last));
     }
 }
 
@@ -23,6 +23,6 @@ impl<K: Key, R: Copy, P: Copy> Tables<K, R, P> {
     pub fn end_all(&mut self)
         ensures { lists self.new ≡ mark (λ _. true) (lists self.old) }
     {
-        mark_all(&mut self.held);
+        self.held.for_each_mut(|entry| entry.ended = true);
     }
 }

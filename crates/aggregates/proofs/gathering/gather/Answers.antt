@@ -1,25 +1,10 @@
-use Rattle.std.proofs.Common.{◌<◌, ◌≤◌, length, refl, arith, rules}
-use Rattle.tables.specs.Rows.{rows}
-use Rattle.aggregates.proofs.Gathered.{gathered_as, gathered_one, gathered_skip, gathered_all}
+use Rattle.std.proofs.Common.{◌≡◌, ◌++◌, length, ap, ◌∙◌, arith}
+use Rattle.tables.specs.Rows.{rows, values_left}
+use Rattle.tables.proofs.Edits.{rows_few}
+use Rattle.aggregates.specs.CatchingUp.{cells_at}
 use Rattle.aggregates.proofs.gathering.gather.Goals as goal
-use Rattle.aggregates.proofs.gathering.gather.Goals.{then-one-place, else-one-place}
 
-pub loop-i-init : goal.loop-i-init
-loop-i-init g c = record { few = omega arith; long = search rules; is = refl }
-
-pub loop-i-preserved : goal.loop-i-preserved
-loop-i-preserved g c =
-    let q = c.loop-i.invariant in
-    let x = c.get-one.result.now in
-    let h : c.loop-i.i < length (rows c.args.kept.now) = omega (arith, c.len-i-end.ensures.count, c.loop-i-test.true) in
-    let l : c.loop-i.i < 1024 = omega (arith, c.len-i-end.ensures.few, c.loop-i-test.true) in
-    elim c.if-one-place.branch [
-      | then-one-place w ↦ gathered_as (gathered_one q x h c.get-one.ensures l w.if-one-place.true) _ _ w.cells-is w.count-is
-      | else-one-place w ↦ gathered_as (gathered_skip q x h c.get-one.ensures w.if-one-place.false) _ _ w.cells-is w.count-is
-    ]
-
-pub returns : goal.returns
-returns g c =
-    let h : length (rows c.args.kept.now) ≤ c.loop-i.i = omega (arith, c.len-i-end.ensures.count, c.loop-i-test.false) in
-    let l : c.loop-i.i ≤ 1024 = omega (arith, c.len-i-end.ensures.few, c.loop-i.auto.i-end) in
-    record { cells = gathered_all c.loop-i.invariant h; few = omega (arith, c.loop-i.invariant.few) }
+pub loop-one-init : goal.loop-one-init
+loop-one-init g c =
+    let left : values_left c.into_iter-one-iterator.result ≡ rows c.args.kept.now = ap values_left c.into_iter-one-iterator.ensures.into_iter_gives ∙ c.iter-one-items.ensures in
+    record { is = ap (λ cells. cells ++ cells_at c.args.place (values_left c.into_iter-one-iterator.result)) c.clear.ensures ∙ ap (cells_at c.args.place) left; few = omega (arith, ap length left, ap length c.clear.ensures, rows_few c.args.kept.now) }

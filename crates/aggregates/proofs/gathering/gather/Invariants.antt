@@ -1,6 +1,11 @@
-use Rattle.tables.specs.Rows.{rows}
-use Rattle.aggregates.proofs.Gathered.{Gathered}
+use Rattle.std.proofs.Common.{◌≡◌, ◌+◌, ◌≤◌, ◌++◌, length}
+use Rattle.tables.specs.Rows.{rows, values_left}
+use Rattle.aggregates.specs.CatchingUp.{cells_at}
 use Rattle.aggregates.proofs.gathering.gather.Given as goal
 
-abbrev pub invariant-loop-i : goal.invariant-loop-i
-invariant-loop-i g l = Gathered l.place (rows l.kept) l.cells l.count l.i
+-- with what the rows left will give they make the whole
+abbrev pub invariant-loop-one : goal.invariant-loop-one
+invariant-loop-one g l = record {
+  is : l.cells.items ++ cells_at l.place (values_left l.one-iterator) ≡ cells_at l.place (rows l.kept);
+  few : length l.cells.items + length (values_left l.one-iterator) ≤ 1024;
+}

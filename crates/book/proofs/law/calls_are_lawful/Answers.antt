@@ -5,5 +5,5 @@ pub returns : goal.returns
 returns g c mode f th =
     let met = g.met.K.OrderedKey in
     lawful
-    (record { kind = record { same = g.K.Key.same; order = g.K.OrderedKey.order; parts = g.K.OrderedKey.parts }; mode = mode; figures = f }) th
-    (record { equality = g.met.K.Key.equality; ranked = met.ranked; sorted = met.sorted; ties = met.ties; tied = met.tied })
+    (record { kind = record { same = g.K.PartialEq.eq; order = g.K.Ord.cmp; parts = g.K.OrderedKey.parts }; mode = mode; figures = f }) th
+    (record { equality = g.met.K.Eq.laws; ranked = g.met.K.Ord.total; sorted = met.sorted; ties = g.met.K.Ord.matches_eq; tied = met.tied })

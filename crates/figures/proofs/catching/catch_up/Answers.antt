@@ -9,36 +9,35 @@ pub loop-place-init : goal.loop-place-init
 loop-place-init g c =
     let m = g.F.Figure in
     let f = c.args.figure.now in
-    let rows = c.args.rows.now in
+    let rows = c.args.kept.now.rows.now in
     let n = length c.args.results.now in
     let from : c.args.from + 0 ≡ c.args.from = omega arith in
     let whole : length c.args.results.now - 0 ≡ length c.args.results.now = omega arith in (
-      ap (λ i. stretch m f c.args.carry c.args.first rows i (n - 0)) from ∙ ap (stretch m f c.args.carry c.args.first rows c.args.from) whole,
-      ap (λ i. carry_after m f c.args.carry c.args.first rows i (n - 0)) from ∙ ap (carry_after m f c.args.carry c.args.first rows c.args.from) whole,
+      ap (λ i. stretch m f c.args.carry c.args.kept.now.first rows i (n - 0)) from ∙ ap (stretch m f c.args.carry c.args.kept.now.first rows c.args.from) whole,
+      ap (λ i. carry_after m f c.args.carry c.args.kept.now.first rows i (n - 0)) from ∙ ap (carry_after m f c.args.carry c.args.kept.now.first rows c.args.from) whole,
     )
 
 pub loop-place-preserved : goal.loop-place-preserved
 loop-place-preserved g c =
     let m = g.F.Figure in
     let f = c.args.figure.now in
-    let rows = c.args.rows.now in
+    let rows = c.args.kept.now.rows.now in
     let n = length c.args.results.now in
     let j = c.loop-place.place in
     let k = c.loop-place.next in
     let k' = c.pass-next.result in
     let room : j < length c.loop-place.results = omega (arith, c.loop-place-test.true, c.loop-place.auto.results) in (
-      ap (λ r. take (j + 1) r ++ stretch m f k' c.args.first rows (c.args.from + (j + 1)) (n - (j + 1))) c.put.ensures
-          ∙ results_more m f k k' c.args.first rows c.args.from j n c.loop-place-test.true c.pass-next.ensures c.loop-place.results c.result_of-result.result room c.result_of-result.ensures
+      results_more m f k k' c.args.kept.now.first rows c.args.from j n c.loop-place-test.true c.pass-next.ensures c.loop-place.results c.result_of.result room c.result_of.ensures
           ∙ c.loop-place.invariant.0,
-      carry_more m f k k' c.args.first rows c.args.from j n c.loop-place-test.true c.pass-next.ensures ∙ c.loop-place.invariant.1,
+      carry_more m f k k' c.args.kept.now.first rows c.args.from j n c.loop-place-test.true c.pass-next.ensures ∙ c.loop-place.invariant.1,
     )
 
 pub returns : goal.returns
 returns g c =
     let m = g.F.Figure in
     let f = c.args.figure.now in
-    let rows = c.args.rows.now in
-    let first = c.args.first in
+    let rows = c.args.kept.now.rows.now in
+    let first = c.args.kept.now.first in
     let from = c.args.from in
     let n = length c.args.results.now in
     let os = c.loop-place.results in

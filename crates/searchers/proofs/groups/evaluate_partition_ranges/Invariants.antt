@@ -3,4 +3,4 @@ use Rattle.searchers.proofs.Sorts.{Sorting}
 use Rattle.searchers.proofs.groups.evaluate_partition_ranges.Given as goal
 
 abbrev pub invariant-loop-i : goal.invariant-loop-i
-invariant-loop-i g l = Sorting g.K.Key.same g.K.OrderedKey.order (keys_of l.rows) l.before l.ids l.firsts l.count l.i
+invariant-loop-i g l = Sorting g.K.PartialEq.eq g.K.Ord.cmp (keys_of l.rows) l.before l.ids l.firsts l.i

@@ -1,6 +1,9 @@
-use Rattle.std.proofs.Common.{sym}
-use Rattle.std.proofs.lemmas.List.{take_all}
+use Rattle.std.proofs.Common.{◌≡◌, min, length, take, ap, ◌∙◌, arith}
+use Rattle.std.proofs.lemmas.List.{take_min}
 use Rattle.searchers.proofs.groups.first_rows.Goals as goal
 
-pub returns-else-rows-gt256 : goal.returns-else-rows-gt256
-returns-else-rows-gt256 g c = record { first = sym (take_all 256 c.args.rows.now c.if-rows-gt256.false); few = c.if-rows-gt256.false }
+pub returns-clause-first : goal.returns-clause-first
+returns-clause-first g c =
+    let rows = c.args.rows.now in
+    let least : c.min.result ≡ min 256 (length rows) = omega arith in
+    ap (λ n. take n rows) least ∙ take_min 256 rows

@@ -1,38 +1,30 @@
-use Rattle.std.proofs.Common.{◌≡◌, true, false, Some, None, sym, ap, ◌∙◌}
+use Rattle.std.proofs.Common.{◌≡◌, Some, None, sym, ◌∙◌}
 use Rattle.std.proofs.lemmas.List.{at_drop_all}
-use Rattle.searchers.specs.Order.{keys_of, lower, falls, first_fall}
+use Rattle.searchers.specs.Order.{keys_of, lower, first_fall}
 use Rattle.searchers.proofs.Falls.{fall_here, no_fall_here, means_first_fall}
 use Rattle.searchers.proofs.Places.{key_within, key_read, keys_past}
 use Rattle.searchers.proofs.order.first_fall.Goals as goal
-use Rattle.searchers.proofs.order.first_fall.Goals.{in-Some+else-is_lower, in_default}
 
-pub returns-then-is_lower : goal.returns-then-is_lower
-returns-then-is_lower g c =
-    let low = lower c.args.mode g.K.OrderedKey.order g.K.OrderedKey.parts in
+pub returns-then-falls : goal.returns-then-falls
+returns-then-falls g c =
+    let low = lower c.args.mode g.K.Ord.cmp g.K.OrderedKey.parts in
     let r = c.index-rows-i.result in
-    let e : falls low c.loop-i.before r.key ≡ true = ap (λ b. falls low b r.key) c.in-Some.is ∙ sym c.if-is_lower.ensures in
     let rows = c.args.rows.now in
     let i = c.loop-i.i in
-    let value : Some i ≡ first_fall low c.args.last 0 (keys_of rows) = sym (fall_here low c.loop-i.before (keys_of rows) i r.key (key_within rows i c.loop-i-test.true) (key_read rows i r c.loop-i-test.true c.index-rows-i.is) e) ∙ c.loop-i.invariant in
+    let value : Some i ≡ first_fall low c.args.last 0 (keys_of rows) = sym (fall_here low c.loop-i.before (keys_of rows) i r.key (key_within rows i c.loop-i-test.true) (key_read rows i r c.loop-i-test.true c.index-rows-i.is) (sym c.if-falls.ensures)) ∙ c.loop-i.invariant in
     record { value = value; first = means_first_fall low c.args.last (keys_of rows) (Some i) value }
 
 pub loop-i-preserved : goal.loop-i-preserved
 loop-i-preserved g c =
-    let low = lower c.args.mode g.K.OrderedKey.order g.K.OrderedKey.parts in
+    let low = lower c.args.mode g.K.Ord.cmp g.K.OrderedKey.parts in
     let r = c.index-rows-i.result in
-    let e : falls low c.loop-i.before r.key ≡ false =
-    elim c.match-before.branch [
-      | in-Some+else-is_lower w ↦ ap (λ b. falls low b r.key) w.in-Some.is ∙ sym w.if-is_lower.ensures
-      | in_default w ↦ ap (λ b. falls low b r.key) w.in_default.is
-    ]
-    in
     let rows = c.args.rows.now in
     let i = c.loop-i.i in
-    sym (no_fall_here low c.loop-i.before (keys_of rows) i r.key (key_within rows i c.loop-i-test.true) (key_read rows i r c.loop-i-test.true c.index-rows-i.is) e) ∙ c.loop-i.invariant
+    sym (no_fall_here low c.loop-i.before (keys_of rows) i r.key (key_within rows i c.loop-i-test.true) (key_read rows i r c.loop-i-test.true c.index-rows-i.is) (sym c.if-falls.ensures)) ∙ c.loop-i.invariant
 
 pub returns : goal.returns
 returns g c =
-    let low = lower c.args.mode g.K.OrderedKey.order g.K.OrderedKey.parts in
+    let low = lower c.args.mode g.K.Ord.cmp g.K.OrderedKey.parts in
     let rows = c.args.rows.now in
     let i = c.loop-i.i in
     let value : None ≡ first_fall low c.args.last 0 (keys_of rows) = sym (at_drop_all (first_fall low c.loop-i.before i) (keys_of rows) i (keys_past rows i c.loop-i-test.false)) ∙ c.loop-i.invariant in

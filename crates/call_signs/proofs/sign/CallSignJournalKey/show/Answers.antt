@@ -1,21 +1,18 @@
-use Rattle.std.proofs.Common.{◌≡◌, ◌-◌, [], ◌∷◌, map, take, ◌∙◌, arith}
-use Rattle.std.proofs.lemmas.List.{take_all, map_more}
-use Rattle.raw_bytes.proofs.Writing.{wrote_none, wrote_both}
-use Rattle.call_signs.specs.Signs.{underscored, sign_bytes}
-use Rattle.call_signs.proofs.Spelled.{cut_bytes}
+use Rattle.std.proofs.Common.{◌≡◌, ◌<◌, length, map, get_or, ap, ◌∙◌, sym, arith, rules, length-append, length-take}
+use Rattle.std.proofs.lemmas.List.{take-map, length-map, same_lists, length-replicate, get_or-map}
+use Rattle.call_signs.specs.Spelling.{underscored}
 use Rattle.call_signs.proofs.sign.CallSignJournalKey.show.Goals as goal
-
-pub loop-byte-init : goal.loop-byte-init
-loop-byte-init c = wrote_none c.args.out.now c.args.at (omega arith)
-
-pub loop-byte-preserved : goal.loop-byte-preserved
-loop-byte-preserved c =
-    let letters = take (c.spelled-sign.result.len - 0) c.spelled-sign.result.bytes in
-    rw (map_more underscored letters c.loop-byte.byte-index 0 c.loop-byte-test.true, ← c.printed.ensures)
-    (wrote_both (map underscored (take c.loop-byte.byte-index letters)) (c.printed.result ∷ []) (omega arith) c.loop-byte.invariant c.put-next.ensures)
 
 pub returns : goal.returns
 returns c =
-    let letters = take (c.spelled-sign.result.len - 0) c.spelled-sign.result.bytes in
-    let all : take c.loop-byte.byte-index letters ≡ sign_bytes c.args.self.now = take_all c.loop-byte.byte-index letters c.loop-byte-test.false ∙ cut_bytes (sign_bytes c.args.self.now) _ _ c.spelled-sign.ensures.bytes c.spelled-sign.ensures.len in
-    rw (← all) c.loop-byte.invariant
+    let bytes = c.args.self.now.bytes in
+    let few = c.args.self.now.few in
+    let long : length bytes ≡ 8 = omega (arith, simp (length-append, length-replicate, length-take) at (ap length c.args.self.now.blank)) in
+    let shown : c.map-shown.result ≡ map underscored bytes =
+    same_lists _ _ (simp length-map (omega (arith, c.map-shown.ensures.items.long)))
+    (λ k d h.
+    let within : k < 8 = omega (arith, c.map-shown.ensures.items.long) in
+    let call = c.map-shown.ensures.items.at k 0 d within in
+    let here : get_or c.map-shown.result k d ≡ underscored (get_or bytes k 0) = search (rules, call) in
+    here ∙ sym (get_or-map underscored bytes k 0 d (omega arith))) in
+    rw (← take-map underscored c.args.self.now.len bytes, ← shown) c.put_text.ensures

@@ -1,12 +1,11 @@
-use Rattle.std.proofs.Common.{◌≡◌, ℕ, ◌+◌, sym, ap, ◌∙◌, subst, arith}
-use Rattle.std.proofs.lemmas.List.{take_all}
-use Rattle.figures.specs.Sets.{figures, largest, IsLargest}
-use Rattle.figures.proofs.Largest.{set_largest}
+use Rattle.std.proofs.Common.{◌≡◌, ◌+◌, rules}
+use Rattle.std.proofs.iter.Rest.{running}
+use Rattle.std.proofs.iter.Serving.{returning}
+use Rattle.figures.specs.Sets.{figures, largest}
+use Rattle.figures.proofs.Largest.{largest_is}
 use Rattle.figures.proofs.set.FigureSet.reach.Goals as goal
 
-pub returns : goal.returns
-returns g c =
-    let set = c.args.self.now in
-    let n : g.row.F.Denot → ℕ = λ f. g.F.Figure.back f + g.F.Figure.ahead f in
-    let value : c.loop-i.most ≡ largest n (figures set) = c.loop-i.invariant ∙ ap (largest n) (take_all c.loop-i.i (figures set) (omega (arith, c.len-i-end.ensures, c.loop-i-test.false))) in
-    record { value = value; largest = subst (IsLargest n (figures set)) (sym value) (set_largest n set) }
+pub returns-clause-largest : goal.returns-clause-largest
+returns-clause-largest g c =
+    let value : c.fold.result ≡ largest (λ f. g.F.Figure.back f + g.F.Figure.ahead f) (figures c.args.self.now) = search (rules, returning, running) in
+    largest_is (λ f. g.F.Figure.back f + g.F.Figure.ahead f) c.args.self.now c.fold.result value

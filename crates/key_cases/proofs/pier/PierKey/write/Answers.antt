@@ -1,7 +1,7 @@
 use Rattle.std.proofs.Common.{arith}
 use Rattle.raw_bytes.specs.Numbers.{two_bytes}
-use Rattle.raw_bytes.proofs.Writing.{wrote_both}
+use Rattle.raw_bytes.proofs.Writing.{written_both}
 use Rattle.key_cases.proofs.pier.PierKey.write.Goals as goal
 
 pub returns : goal.returns
-returns c = wrote_both (two_bytes c.args.self.now.pier) (two_bytes c.args.self.now.berth) (omega arith) c.put_u16-next.ensures c.put_u16.ensures
+returns c = written_both (two_bytes c.args.self.now.pier) (two_bytes c.args.self.now.berth) (omega arith) c.put_u16.ensures c.put_u16-2.ensures

@@ -1,9 +1,9 @@
-use Rattle.std.proofs.Common.{[], ◌∷◌, decimal, arith}
-use Rattle.raw_bytes.proofs.Writing.{wrote_both}
+use Rattle.std.proofs.Common.{[], ◌∷◌, ◌++◌, decimal, append_assoc, arith}
+use Rattle.raw_bytes.proofs.Writing.{written_both}
 use Rattle.keys.proofs.route.RouteBerthJournalKey.show.Goals as goal
 
 pub returns : goal.returns
 returns c =
-    rw (← c.from.ensures, ← c.from-2.ensures)
-    (wrote_both (decimal c.from.result) (47 ∷ decimal c.from-2.result) (omega arith) c.put_number-slash.ensures
-    (wrote_both (47 ∷ []) (decimal c.from-2.result) (omega arith) c.put-berth.ensures c.put_number.ensures))
+    rw (← append_assoc (decimal c.args.self.now.route) (47 ∷ []) (decimal c.args.self.now.berth))
+    (written_both (decimal c.args.self.now.route ++ (47 ∷ [])) (decimal c.args.self.now.berth) (omega arith)
+    (written_both (decimal c.args.self.now.route) (47 ∷ []) (omega arith) c.put_number.ensures c.put.ensures) c.put_number-2.ensures)

@@ -1,4 +1,3 @@
-use Rattle.std.proofs.Common.{take}
 use Rattle.searchers.specs.Order.{keys_of}
 use Rattle.searchers.specs.Table.{picked}
 use Rattle.searchers.proofs.Tables.{Passed}
@@ -6,4 +5,5 @@ use Rattle.searchers.proofs.index.KeyIndex.probe.Given as goal
 
 abbrev pub invariant-loop-step : goal.invariant-loop-step
 invariant-loop-step g l =
-    Passed g.K.Key.same g.K.Key.hashed (picked (keys_of l.rows) (take l.self.count l.self.firsts)) l.self.slots l.key l.step
+    let index = l.self-inside in
+    Passed g.K.PartialEq.eq g.K.Key.hashed (picked (keys_of index.rows.now) index.firsts) index.slots l.key l.step

@@ -6,7 +6,7 @@ use Rattle.searchers.proofs.search.LinearSearchPartitionSearcher.evaluate_partit
 
 pub returns : goal.returns
 returns g c =
-    let same = g.K.Key.same in
+    let same = g.K.PartialEq.eq in
     let rows = take 256 c.args.rows.now in
     let value : c.group_by_hash.result ≡ grouped same (keys_of rows) = c.group_by_hash.ensures ∙ ap (λ rows. grouped same (keys_of rows)) c.first_rows.ensures.first in
-    record { value = value; means = groups_mean same g.met.K.Key.equality (keys_of rows) _ value }
+    record { value = value; means = groups_mean same g.met.K.Eq.laws (keys_of rows) _ value }

@@ -1,18 +1,11 @@
-use Rattle.std.proofs.Common.{◌∙◌, arith}
-use Rattle.tables.proofs.Edits.{rows_few, below_size, reads_some, no_none}
+use Rattle.std.proofs.Common.{◌∙◌, sym, arith}
+use Rattle.tables.specs.Rows.{rows}
+use Rattle.tables.proofs.Edits.{place_read, rows_long}
+use Rattle.std.proofs.lemmas.Option.{slice_get_past}
 use Rattle.tables.proofs.table.Table.get.Goals as goal
 
-pub offset_bounds-self-i : goal.offset_bounds-self-i
-offset_bounds-self-i g c = omega (arith, c.requires, rows_few c.args.self.now)
+pub returns-then-i-self : goal.returns-then-i-self
+returns-then-i-self g c = c.as_ref.ensures.value ∙ sym c.index-self-i.is ∙ place_read c.args.self.now c.args.i _ c.if-i-self.true c.index-self-i.is
 
-pub listed : goal.listed
-listed g c = below_size c.args.self.now c.args.i c.requires
-
-pub bounds-self-i : goal.bounds-self-i
-bounds-self-i g c = omega (arith, c.requires, rows_few c.args.self.now)
-
-pub unreachable-requires : goal.unreachable-requires
-unreachable-requires g c = no_none c.args.self.now c.args.i c.requires c.index-self-i.result c.index-self-i.is (c.index-self-i.is ∙ c.in-None.is)
-
-pub returns : goal.returns
-returns g c = reads_some c.args.self.now c.args.i c.requires c.index-self-i.result c.index-self-i.is c.in-Some.x (c.index-self-i.is ∙ c.in-Some.is)
+pub returns-else-i-self : goal.returns-else-i-self
+returns-else-i-self g c = sym (slice_get_past (rows c.args.self.now) c.args.i (omega (arith, c.if-i-self.false, rows_long c.args.self.now)))

@@ -1,6 +1,6 @@
 use Rattle.tables.specs.Rows.{rows}
 use Rattle.tables.proofs.table.Table.len.Goals as goal
 
-pub returns : goal.returns
+pub returns-clause-count : goal.returns-clause-count
 unfolding rows
-returns g c = record { count = c.args.self.now.count; few = c.args.self.now.few }
+returns-clause-count g c = c.args.self.now.count

@@ -1,25 +1,19 @@
-use Rattle.std.proofs.Common.{length, sym, ap, ◌∙◌, arith, length-set}
+use Rattle.std.proofs.Common.{sym, ◌∙◌, arith, length-set}
+use Rattle.std.proofs.lemmas.List.{set_past}
 use Rattle.tables.specs.Rows.{rows}
-use Rattle.tables.proofs.Edits.{rows_few, below_size, put_places}
-use Rattle.tables.proofs.Laid.{somes_of, laid_own}
+use Rattle.tables.proofs.Edits.{put_places, rows_long}
+use Rattle.tables.proofs.Laid.{somes_of, laid_table}
 use Rattle.tables.proofs.table.Table.put.Goals as goal
 
-pub offset_bounds-self-i : goal.offset_bounds-self-i
-offset_bounds-self-i g c = omega (arith, c.requires, rows_few c.args.self.now)
-
-pub listed : goal.listed
-listed g c = below_size c.args.self.now c.args.i c.requires
-
-pub bounds-self-i : goal.bounds-self-i
-bounds-self-i g c = omega (arith, c.requires, rows_few c.args.self.now)
-
 pub invariant_of-self : goal.invariant_of-self
-unfolding rows
 invariant_of-self g c =
     let s = c.args.self.now in
-    let e = put_places s c.args.i c.args.x c.requires in
-    record { packed = laid_own g.row.N _ _ e; count = s.count ∙ sym (ap length (somes_of g.row.N _ _ e) ∙ length-set (rows s) c.args.i c.args.x); few = s.few }
+    let e = put_places s c.args.i c.args.x c.if-i-self.true in
+    laid_table g.row.N _ _ e (rows_long s ∙ sym (length-set (rows s) c.args.i c.args.x)) s.few
 
-pub returns : goal.returns
+pub returns-then-i-self : goal.returns-then-i-self
 unfolding rows
-returns g c = somes_of g.row.N _ _ (put_places c.args.self.now c.args.i c.args.x c.requires)
+returns-then-i-self g c = somes_of g.row.N _ _ (put_places c.args.self.now c.args.i c.args.x c.if-i-self.true)
+
+pub returns-else-i-self : goal.returns-else-i-self
+returns-else-i-self g c = let s = c.args.self.now in sym (set_past (rows s) c.args.i c.args.x (omega (arith, rows_long s, c.if-i-self.false)))

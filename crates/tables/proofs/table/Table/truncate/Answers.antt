@@ -1,29 +1,19 @@
-use Rattle.std.proofs.Common.{◌≡◌, ℕ, ◌+◌, ◌-◌, ◌≤◌, length, take, sym, ap, ◌∙◌, arith, rules}
-use Rattle.std.proofs.lemmas.List.{length-take-le, take-take, take_all}
+use Rattle.std.proofs.Common.{sym, arith, rules, length-take-le}
+use Rattle.std.proofs.lemmas.List.{take_all}
 use Rattle.tables.specs.Rows.{rows}
+use Rattle.tables.proofs.Edits.{rows_long, cut_places}
+use Rattle.tables.proofs.Laid.{somes_of, laid_table}
 use Rattle.tables.proofs.table.Table.truncate.Goals as goal
 
-pub loop-init : goal.loop-init
-loop-init g c = sym (take_all _ (rows c.args.self.now) (omega (arith, c.requires, c.len-end.ensures.count)))
+pub invariant_of-self : goal.invariant_of-self
+invariant_of-self g c =
+    let s = c.args.self.now in
+    let e = cut_places s c.args.n c.if-n-self.true c.fill.new.self (search rules) in
+    laid_table g.row.N _ _ e (sym (length-take-le c.args.n (rows s) (omega (arith, rows_long s, c.if-n-self.true)))) (omega (arith, s.few, c.if-n-self.true))
 
-pub pop-requires : goal.pop-requires
-pop-requires g c =
-    let xs = rows c.args.self.now in
-    let m : ℕ = c.args.n + (c.len-end.result - c.loop.counter) in
-    let few : m ≤ length xs = omega (arith, c.len-end.ensures.count, c.loop.auto.counter, c.loop-test.true) in
-    (search rules, omega (arith, ap length c.loop.invariant, length-take-le m xs few, c.loop-test.true))
+pub returns-then-n-self : goal.returns-then-n-self
+unfolding rows
+returns-then-n-self g c = somes_of g.row.N _ _ (cut_places c.args.self.now c.args.n c.if-n-self.true c.fill.new.self (search rules))
 
-pub loop-preserved : goal.loop-preserved
-loop-preserved g c =
-    let xs = rows c.args.self.now in
-    let m : ℕ = c.args.n + (c.len-end.result - c.loop.counter) in
-    let k : ℕ = c.args.n + (c.len-end.result - (c.loop.counter + 1)) in
-    let few : m ≤ length xs = omega (arith, c.len-end.ensures.count, c.loop.auto.counter, c.loop-test.true) in
-    let less : k ≤ m = omega arith in
-    let one : length (rows c.loop.self) - 1 ≡ k = omega (arith, ap length c.loop.invariant, length-take-le m xs few, c.loop-test.true) in
-    c.pop.ensures ∙ ap (λ j. take j (rows c.loop.self)) one ∙ ap (take k) c.loop.invariant ∙ take-take k m xs less
-
-pub returns : goal.returns
-returns g c =
-    let all : c.args.n + (c.len-end.result - c.loop.counter) ≡ c.args.n = omega (arith, c.loop-test.false) in
-    c.loop.invariant ∙ ap (λ j. take j (rows c.args.self.now)) all
+pub returns-else-n-self : goal.returns-else-n-self
+returns-else-n-self g c = let s = c.args.self.now in sym (take_all c.args.n (rows s) (omega (arith, rows_long s, c.if-n-self.false)))
