@@ -8,6 +8,7 @@ use figures::figure::Figure;
 use figures::set::FigureSet;
 
 // The number of the key's rows when it was last caught up, and each figure's carry.
+// A carry for each figure by its number, as a row's results are: a set has four named fields, and memory is fixed.
 #[derive(Clone, Copy)]
 pub struct Progress {
     pub rows: u32,

@@ -30,6 +30,15 @@ impl<'a, K: Key> Model for Batch<'a, K> {
 }
 
 impl<'a, K: Key> Batch<'a, K> {
+    // The batch of these rows, from groups that are theirs.
+    pub fn of(rows: &'a [Row<K>], groups: Groups) -> Self
+        requires short { length rows.now ≤ 256 }
+        requires grouped { groups ≡ grouped K.eq (keys_of rows.now) }
+        ensures { result ≡ rows.now }
+    {
+        Batch { rows, groups }
+    }
+
     pub fn rows(&self) -> &'a [Row<K>]
         ensures rows { result.now ≡ self.now }
         ensures short { length self.now ≤ 256 }
@@ -54,6 +63,6 @@ impl<'a, K: OrderedKey> Batch<'a, K> {
             return None;
         }
         let groups = searcher.evaluate_partition_batches(rows);
-        Some(Batch { rows, groups })
+        Some(Batch::of(rows, groups))
     }
 }

@@ -4,6 +4,6 @@ use Rattle.searchers.specs.Groups.{grouped}
 use Rattle.searchers.specs.Order.{keys_of}
 use Rattle.tables.proofs.batch.Batch.grouped_by.Goals as goal
 
-pub invariant_of-result : goal.invariant_of-result
-invariant_of-result g c =
+pub of-requires : goal.of-requires
+of-requires g c =
     record { short = c.if-rows-gt256.false; grouped = c.evaluate_partition_batches-groups.ensures.value ∙ ap (λ rows. grouped g.K.PartialEq.eq (keys_of rows)) (take_all 256 c.args.rows.now c.if-rows-gt256.false) }
