@@ -1,4 +1,4 @@
-// The bounded window stream: a run over fixed tables, and the law over every list of its calls.
+// The bounded window stream: a run over fixed tables, as far as it goes. The law over every list of its calls is stated in specs/, and no contract carries it yet.
 #![tactic(auto)]
 
 mod rounds;
