@@ -5,3 +5,4 @@ pub mod Splitting
 pub mod FigureByFigure
 pub mod KeyByKey
 pub mod Idle
+pub mod Written

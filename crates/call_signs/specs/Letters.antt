@@ -1,5 +1,5 @@
 -- The letters of a call sign as bytes: A to Z, 0 to 9 and the blank, in ASCII.
-use Rattle.std.specs.Prelude.{ℕ, Bool, ◌&&◌, ◌||◌, ◌==◌, nat_le, IsTrue, refl}
+use Rattle.std.specs.Prelude.{ℕ, Bool, ◌&&◌, ◌||◌, List, [], ◌∷◌, Some, None, Option, if◌then◌else◌, ◌==◌, nat_le}
 use Rattle.call_signs.specs.declared.letter.Letter.{Letter}
 use Rattle.call_signs.specs.declared.letter.Letter.TheVariants.{Blank, N0, N1, N2, N3, N4, N5, N6, N7, N8, N9, A, B, C, D, E, F, G, H, I, J, K, L, M, N, O, P, Q, R, S, T, U, V, W, X, Y, Z}
 
@@ -42,46 +42,18 @@ code X = 88
 code Y = 89
 code Z = 90
 
+-- all letters, in the order of their bytes
+abbrev pub letters : List Letter
+letters = Blank ∷ N0 ∷ N1 ∷ N2 ∷ N3 ∷ N4 ∷ N5 ∷ N6 ∷ N7 ∷ N8 ∷ N9 ∷ A ∷ B ∷ C ∷ D ∷ E ∷ F ∷ G ∷ H ∷ I ∷ J ∷ K ∷ L ∷ M ∷ N ∷ O ∷ P ∷ Q ∷ R ∷ S ∷ T ∷ U ∷ V ∷ W ∷ X ∷ Y ∷ Z ∷ []
+
+-- the first of some letters with the byte b
+abbrev pub with_byte : ℕ → List Letter → Option Letter
+with_byte b [] = None
+with_byte b (l ∷ ls) = if code l == b then Some l else with_byte b ls
+
+abbrev pub letter_of : ℕ → Option Letter
+letter_of b = with_byte b letters
+
 -- the bytes that are letters: the blank, 0 to 9 and A to Z
 abbrev pub is_letter : ℕ → Bool
 is_letter b = b == 32 || (nat_le 48 b && nat_le b 57 || nat_le 65 b && nat_le b 90)
-
--- every letter's byte is one of them
-pub code_known : (l : Letter) → IsTrue (is_letter (code l))
-code_known Blank = refl
-code_known N0 = refl
-code_known N1 = refl
-code_known N2 = refl
-code_known N3 = refl
-code_known N4 = refl
-code_known N5 = refl
-code_known N6 = refl
-code_known N7 = refl
-code_known N8 = refl
-code_known N9 = refl
-code_known A = refl
-code_known B = refl
-code_known C = refl
-code_known D = refl
-code_known E = refl
-code_known F = refl
-code_known G = refl
-code_known H = refl
-code_known I = refl
-code_known J = refl
-code_known K = refl
-code_known L = refl
-code_known M = refl
-code_known N = refl
-code_known O = refl
-code_known P = refl
-code_known Q = refl
-code_known R = refl
-code_known S = refl
-code_known T = refl
-code_known U = refl
-code_known V = refl
-code_known W = refl
-code_known X = refl
-code_known Y = refl
-code_known Z = refl

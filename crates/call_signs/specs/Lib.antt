@@ -1,6 +1,5 @@
 pub mod Letters
 pub mod Spelling
-pub mod Kept
 pub mod Signs
 pub mod Same
 pub mod ReadBack

@@ -1,6 +1,7 @@
 // The letters of call signs: A to Z, 0 to 9 and the blank.
 ghost use Rattle.std.specs.Prelude.{◌≡◌, MatchResult, IsFalse};
-ghost use Rattle.call_signs.specs.Letters.{code, is_letter};
+ghost use Rattle.std.specs.Result.{result_ok};
+ghost use Rattle.call_signs.specs.Letters.{code, letter_of, is_letter};
 
 // A letter of a call sign. Its number is its byte.
 #[derive(Clone, Copy, Debug, PartialEq, Eq, PartialOrd, Ord)]
@@ -59,7 +60,7 @@ impl From<Letter> for u8 {
 impl TryFrom<u8> for Letter {
     type Error = NoLetter;
 
-    ghost try_from_gives = { λ byte read. MatchResult read (λ letter. code letter ≡ byte) (λ _. IsFalse (is_letter byte)) };
+    ghost try_from_gives = { λ byte read. (result_ok read ≡ letter_of byte) × MatchResult read (λ letter. code letter ≡ byte) (λ _. IsFalse (is_letter byte)) };
 
     fn try_from(byte: u8) -> Result<Letter, NoLetter> {
         match byte {
@@ -103,11 +104,4 @@ impl TryFrom<u8> for Letter {
             _ => Err(NoLetter),
         }
     }
-}
-
-// Whether the byte is a letter's.
-pub(crate) fn is_letter(byte: u8) -> bool
-    ensures { result ≡ is_letter byte }
-{
-    matches!(byte, b' ' | b'0'..=b'9' | b'A'..=b'Z')
 }

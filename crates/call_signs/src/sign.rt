@@ -1,92 +1,199 @@
 // Call signs: one to eight letters.
-ghost use Rattle.std.specs.Prelude.{◌≡◌, ◌≤◌, [], ◌∷◌, length, take, MatchResult, IsTrue, IsFalse, refl};
-ghost use Rattle.std.specs.List.{list_all};
+ghost use Rattle.std.specs.Prelude.{◌≡◌, [], ◌∷◌, length, take, MatchResult, IsFalse, refl};
 ghost use Rattle.std.specs.Result.{result_ok};
 ghost use Rattle.std.specs.Ordering.{as_partial_cmp};
 ghost use Rattle.std.specs.Cmp.{on_equiv, on_total, partial_equiv_from_equiv, po};
 ghost use Rattle.std.specs.Cmp.Lexicographic.{nat_list_eq_equiv, nat_list_cmp_total, bytes_decides};
 ghost use Rattle.std.proofs.Common.{ap, rules};
 ghost use Rattle.raw_bytes.specs.Numbers.{little_endian};
-ghost use Rattle.call_signs.specs.Letters.{code, is_letter};
+ghost use Rattle.call_signs.specs.Letters.{code};
 ghost use Rattle.call_signs.specs.Spelling.{is_sign, padded, zeros, underscored};
+ghost use Rattle.call_signs.specs.Signs.{sign_bytes, compared_bytes, added, sign_of, same_sign, sign_order, sign_hash, written_sign, sign_from, shown_sign};
+ghost use Rattle.call_signs.specs.ReadBack.{sign_read_back, written_few, written_long, sign_only_written};
+ghost use Rattle.call_signs.specs.Tied.{signs_tied, same_ties};
 
-use crate::letter::{Letter, is_letter};
+use crate::letter::Letter;
 use keys::key::{JournalKey, Key, OrderedKey};
 use raw_bytes::writer::Writer;
 use std::cmp::Ordering;
 
-// A call sign: the bytes of its letters, with zeros behind them, and how many they are. No other
-// bytes make one. Its memory is fixed, since keys are copied and the libraries have no heap.
+// A call sign: a case for each length, so that no other call sign exists. There is no invariant to
+// keep, and a sign can be written as a constant and matched on.
 #[derive(Clone, Copy, Debug)]
-pub struct CallSign {
-    bytes: [u8; 8],
-    len: usize,
-    ghost letters: { IsTrue (is_sign (take len bytes)) },
-    ghost blank: { bytes ≡ padded (take len bytes) },
-    ghost few: { len ≤ 8 },
+pub enum CallSign {
+    One(Letter),
+    Two(Letter, Letter),
+    Three(Letter, Letter, Letter),
+    Four(Letter, Letter, Letter, Letter),
+    Five(Letter, Letter, Letter, Letter, Letter),
+    Six(Letter, Letter, Letter, Letter, Letter, Letter),
+    Seven(Letter, Letter, Letter, Letter, Letter, Letter, Letter),
+    Eight(Letter, Letter, Letter, Letter, Letter, Letter, Letter, Letter),
+}
+
+// Up to eight bytes, with zeros after them, and how many they are. Its memory is fixed, since the
+// libraries have no heap.
+#[derive(Clone, Copy, Debug, PartialEq, Eq)]
+pub struct Spelling {
+    pub bytes: [u8; 8],
+    pub len: usize,
 }
 
 // The bytes are not one to eight letters.
 #[derive(Clone, Copy, Debug, PartialEq, Eq)]
 pub struct NoSign;
 
+impl Spelling {
+    // The bytes without the zeros after them.
+    pub fn as_slice(&self) -> &[u8]
+        ensures { result.now ≡ take self.now.len self.now.bytes }
+    {
+        &self.bytes[..self.len.min(8)]
+    }
+}
+
 // The sign of one letter.
 impl From<Letter> for CallSign {
-    ghost use Rattle.call_signs.specs.Signs.{sign_bytes};
-
     ghost from_gives = { λ letter sign. sign_bytes sign ≡ code letter ∷ [] };
 
     fn from(letter: Letter) -> CallSign {
-        CallSign {
-            bytes: with_zeros(&[u8::from(letter)]),
-            len: 1,
-        }
+        CallSign::One(letter)
     }
 }
 
 impl TryFrom<&[u8]> for CallSign {
     type Error = NoSign;
 
-    ghost use Rattle.call_signs.specs.Signs.{sign_bytes, sign_of};
-
     ghost try_from_gives = { λ bytes read. (result_ok read ≡ sign_of bytes.now) × MatchResult read (λ sign. sign_bytes sign ≡ bytes.now) (λ _. IsFalse (is_sign bytes.now)) };
 
     fn try_from(bytes: &[u8]) -> Result<CallSign, NoSign> {
-        if !spells_sign(bytes) {
-            return Err(NoSign);
-        }
-        Ok(CallSign {
-            bytes: with_zeros(bytes),
-            len: bytes.len(),
-        })
+        read_sign(bytes).ok_or(NoSign)
     }
 }
 
-impl CallSign {
-    ghost use Rattle.call_signs.specs.Signs.{sign_bytes, compared_bytes, added};
+// The sign with these bytes, if they are one to eight letters.
+fn read_sign(bytes: &[u8]) -> Option<CallSign>
+    ensures { result ≡ sign_of bytes.now }
+{
+    let [first, rest @ ..] = bytes else {
+        return None;
+    };
+    let mut sign = CallSign::One(Letter::try_from(*first).ok()?);
+    for byte in rest {
+        sign = sign.add(Letter::try_from(*byte).ok()?)?;
+    }
+    Some(sign)
+}
 
+impl CallSign {
     // The sign with one letter more, unless it has eight.
-    pub fn add(mut self, letter: Letter) -> Option<CallSign>
+    pub fn add(self, letter: Letter) -> Option<CallSign>
         ensures { result ≡ added self letter }
     {
-        if self.len == 8 {
-            return None;
+        match self {
+            CallSign::One(a) => Some(CallSign::Two(a, letter)),
+            CallSign::Two(a, b) => Some(CallSign::Three(a, b, letter)),
+            CallSign::Three(a, b, c) => Some(CallSign::Four(a, b, c, letter)),
+            CallSign::Four(a, b, c, d) => Some(CallSign::Five(a, b, c, d, letter)),
+            CallSign::Five(a, b, c, d, e) => Some(CallSign::Six(a, b, c, d, e, letter)),
+            CallSign::Six(a, b, c, d, e, f) => Some(CallSign::Seven(a, b, c, d, e, f, letter)),
+            CallSign::Seven(a, b, c, d, e, f, g) => Some(CallSign::Eight(
+                a, b, c, d, e, f, g, letter,
+            )),
+            CallSign::Eight(..) => None,
         }
-        self.bytes[self.len] = u8::from(letter);
-        self.len += 1;
-        Some(self)
     }
 
     // The sign's own bytes.
-    pub fn spelled(&self) -> &[u8]
-        ensures { result.now ≡ sign_bytes self.now }
+    pub fn spelled(self) -> Spelling
+        ensures bytes { result.bytes ≡ padded (sign_bytes self) }
+        ensures len { result.len ≡ length (sign_bytes self) }
     {
-        &self.bytes[..self.len]
+        match self {
+            CallSign::One(a) => Spelling {
+                bytes: [u8::from(a), 0, 0, 0, 0, 0, 0, 0],
+                len: 1,
+            },
+            CallSign::Two(a, b) => Spelling {
+                bytes: [u8::from(a), u8::from(b), 0, 0, 0, 0, 0, 0],
+                len: 2,
+            },
+            CallSign::Three(a, b, c) => Spelling {
+                bytes: [u8::from(a), u8::from(b), u8::from(c), 0, 0, 0, 0, 0],
+                len: 3,
+            },
+            CallSign::Four(a, b, c, d) => Spelling {
+                bytes: [
+                    u8::from(a),
+                    u8::from(b),
+                    u8::from(c),
+                    u8::from(d),
+                    0,
+                    0,
+                    0,
+                    0,
+                ],
+                len: 4,
+            },
+            CallSign::Five(a, b, c, d, e) => Spelling {
+                bytes: [
+                    u8::from(a),
+                    u8::from(b),
+                    u8::from(c),
+                    u8::from(d),
+                    u8::from(e),
+                    0,
+                    0,
+                    0,
+                ],
+                len: 5,
+            },
+            CallSign::Six(a, b, c, d, e, f) => Spelling {
+                bytes: [
+                    u8::from(a),
+                    u8::from(b),
+                    u8::from(c),
+                    u8::from(d),
+                    u8::from(e),
+                    u8::from(f),
+                    0,
+                    0,
+                ],
+                len: 6,
+            },
+            CallSign::Seven(a, b, c, d, e, f, g) => Spelling {
+                bytes: [
+                    u8::from(a),
+                    u8::from(b),
+                    u8::from(c),
+                    u8::from(d),
+                    u8::from(e),
+                    u8::from(f),
+                    u8::from(g),
+                    0,
+                ],
+                len: 7,
+            },
+            CallSign::Eight(a, b, c, d, e, f, g, h) => Spelling {
+                bytes: [
+                    u8::from(a),
+                    u8::from(b),
+                    u8::from(c),
+                    u8::from(d),
+                    u8::from(e),
+                    u8::from(f),
+                    u8::from(g),
+                    u8::from(h),
+                ],
+                len: 8,
+            },
+        }
     }
 
     // The bytes that equality, hash and both comparisons look at: all of the sign's own.
-    pub fn compared(&self) -> &[u8]
-        ensures { result.now ≡ compared_bytes self.now }
+    pub fn compared(self) -> Spelling
+        ensures bytes { result.bytes ≡ padded (compared_bytes self) }
+        ensures len { result.len ≡ length (compared_bytes self) }
     {
         self.spelled()
     }
@@ -95,34 +202,8 @@ impl CallSign {
     pub fn padded(&self) -> [u8; 8]
         ensures { result ≡ padded (compared_bytes self.now) }
     {
-        with_zeros(self.compared())
+        self.compared().bytes
     }
-}
-
-// Whether the bytes are one to eight letters.
-fn spells_sign(bytes: &[u8]) -> bool
-    ensures { result ≡ is_sign bytes.now }
-{
-    match bytes.len() {
-        1..=8 => all_letters(bytes),
-        _ => false,
-    }
-}
-
-fn all_letters(bytes: &[u8]) -> bool
-    ensures { result ≡ list_all is_letter bytes.now }
-{
-    bytes.iter().all(|byte| is_letter(*byte))
-}
-
-// Up to eight bytes, with zeros behind them.
-fn with_zeros(bytes: &[u8]) -> [u8; 8]
-    requires { length bytes.now ≤ 8 }
-    ensures { result ≡ padded bytes.now }
-{
-    let mut eight = [0; 8];
-    eight[..bytes.len()].copy_from_slice(bytes);
-    eight
 }
 
 // Whether each byte is 0.
@@ -141,27 +222,22 @@ fn printed(byte: u8) -> u8
 
 // No derives: `compared` alone decides, which may come to look at less than all bytes.
 impl PartialEq for CallSign {
-    ghost use Rattle.call_signs.specs.Signs.{compared_bytes, same_sign};
-
     ghost eq = { same_sign };
 
     ghost laws = { partial_equiv_from_equiv (on_equiv compared_bytes nat_list_eq_equiv) };
 
     fn eq(&self, other: &Self) -> bool {
-        self.compared() == other.compared()
+        let mine = self.compared();
+        let theirs = other.compared();
+        mine.as_slice() == theirs.as_slice()
     }
 }
 
 impl Eq for CallSign {
-    ghost use Rattle.call_signs.specs.Signs.{compared_bytes};
-
     ghost laws = { on_equiv compared_bytes nat_list_eq_equiv };
 }
 
 impl PartialOrd for CallSign {
-    ghost use Rattle.call_signs.specs.Signs.{compared_bytes, sign_order};
-    ghost use Rattle.call_signs.specs.Tied.{signs_tied};
-
     ghost partial_cmp = { as_partial_cmp sign_order };
 
     ghost laws = { po (on_total compared_bytes nat_list_cmp_total) signs_tied };
@@ -172,9 +248,6 @@ impl PartialOrd for CallSign {
 }
 
 impl Ord for CallSign {
-    ghost use Rattle.call_signs.specs.Signs.{compared_bytes, sign_order};
-    ghost use Rattle.call_signs.specs.Tied.{signs_tied};
-
     ghost cmp = { sign_order };
 
     ghost total = { on_total compared_bytes nat_list_cmp_total };
@@ -184,14 +257,13 @@ impl Ord for CallSign {
     ghost matches_eq = { signs_tied };
 
     fn cmp(&self, other: &Self) -> Ordering {
-        self.compared().cmp(other.compared())
+        let mine = self.compared();
+        let theirs = other.compared();
+        mine.as_slice().cmp(theirs.as_slice())
     }
 }
 
 impl Key for CallSign {
-    ghost use Rattle.call_signs.specs.Signs.{compared_bytes, sign_hash, written_sign, sign_from};
-    ghost use Rattle.call_signs.specs.ReadBack.{sign_read_back, written_few};
-
     ghost hashed = { sign_hash };
 
     ghost written = { written_sign };
@@ -209,8 +281,9 @@ impl Key for CallSign {
     }
 
     fn write(&self, writer: &mut Writer<'_>) {
-        writer.put(self.len as u8);
-        writer.put_text(&self.bytes);
+        let sign = self.spelled();
+        writer.put(sign.len as u8);
+        writer.put_text(&sign.bytes);
     }
 
     fn read(bytes: &[u8]) -> Option<Self> {
@@ -227,9 +300,6 @@ impl Key for CallSign {
 }
 
 impl OrderedKey for CallSign {
-    ghost use Rattle.call_signs.specs.Signs.{compared_bytes, sign_order};
-    ghost use Rattle.call_signs.specs.Tied.{same_ties};
-
     ghost parts = { sign_order };
 
     ghost sorted = { on_total compared_bytes nat_list_cmp_total };
@@ -242,9 +312,6 @@ impl OrderedKey for CallSign {
 }
 
 impl JournalKey for CallSign {
-    ghost use Rattle.call_signs.specs.Signs.{shown_sign};
-    ghost use Rattle.call_signs.specs.ReadBack.{written_long, sign_only_written};
-
     ghost width = { 9 };
 
     ghost shown = { shown_sign };
@@ -260,7 +327,8 @@ impl JournalKey for CallSign {
     }
 
     fn show(&self, writer: &mut Writer<'_>) {
-        let shown = self.bytes.map(printed);
-        writer.put_text(&shown[..self.len]);
+        let sign = self.spelled();
+        let shown = sign.bytes.map(printed);
+        writer.put_text(&shown[..sign.len]);
     }
 }

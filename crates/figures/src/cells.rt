@@ -44,12 +44,7 @@ impl Column {
     pub(crate) fn cell(self, cells: &[Cell; 4]) -> Cell
         ensures { result ≡ cell self cells.now }
     {
-        match self {
-            Column::C0 => cells[0],
-            Column::C1 => cells[1],
-            Column::C2 => cells[2],
-            Column::C3 => cells[3],
-        }
+        cells[self as usize]
     }
 
     // The cell as a result.

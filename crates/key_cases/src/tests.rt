@@ -204,6 +204,17 @@ fn signs_are_made_of_one_to_eight_letters(rt: HostRuntime) -> Result<(), Fail> {
     Ok(())
 }
 
+const FLAGSHIP: CallSign = CallSign::Three(Letter::L, Letter::A, Letter::N7);
+
+#[test]
+fn a_sign_stands_as_a_constant(rt: HostRuntime) -> Result<(), Fail> {
+    assert!(rt; FLAGSHIP == sign(b"LA7")?);
+    assert!(rt; matches!(FLAGSHIP, CallSign::Three(Letter::L, _, _)));
+    assert_eq!(rt; FLAGSHIP.spelled().as_slice(), b"LA7".as_slice());
+    assert_eq!(rt; FLAGSHIP.padded(), *b"LA7\0\0\0\0\0");
+    Ok(())
+}
+
 #[test]
 fn signs_are_ordered_byte_by_byte(rt: HostRuntime) -> Result<(), Fail> {
     rises(&rt, sign(b"AB")?, sign(b"AB ")?, Ordering::Less);

@@ -1,7 +1,9 @@
 -- Texts in bytes: what stands where, a single byte, and one text after another.
-use Rattle.std.proofs.Common.{◌≡◌, ℕ, ◌+◌, ◌-◌, ◌^◌, ◌<◌, ◌≤◌, min, List, [], ◌∷◌, ◌++◌, length, get_or, drop, set, sym, ◌∙◌, refl, arith, rules, length-append}
+use Rattle.std.proofs.Common.{◌≡◌, ℕ, ◌+◌, ◌-◌, ◌^◌, ◌<◌, ◌≤◌, min, List, [], ◌∷◌, ◌++◌, length, get_or, drop, set, ℤ, pos, negsuc, nat_abs, ◌≤ℤ◌, ◌<ℤ◌, decimal, sym, ◌∙◌, refl, arith, rules, length-append}
+use Rattle.std.specs.Fmt.{signed_decimal}
 use Rattle.std.proofs.lemmas.List.{places, same_lists, get_or-set_same}
 use Rattle.std.proofs.lemmas.Bool.{cases_eq}
+use Rattle.std.proofs.lemmas.Int.{ints}
 use Rattle.raw_bytes.specs.Writing.{overlaid, Wrote, Written, WritingLaws}
 use Rattle.raw_bytes.specs.declared.writer.Writer.{Writer}
 
@@ -71,3 +73,12 @@ writing_laws = record {
   joined = λ a b c first second at mid next. wrote_both first second;
   whole = wrote_whole;
 }
+
+-- a signed number's text is a minus sign and the digits below 0, and else the digits: for whoever looks at what was written
+pub signed_below : (n : ℤ) → n <ℤ pos 0 → signed_decimal n ≡ 45 ∷ decimal (nat_abs n)
+signed_below (pos n) h = absurd (omega (arith, ints))
+signed_below (negsuc n) h = refl
+
+pub signed_from : (n : ℤ) → pos 0 ≤ℤ n → signed_decimal n ≡ decimal (nat_abs n)
+signed_from (pos n) h = refl
+signed_from (negsuc n) h = absurd (omega (arith, ints))

@@ -9,7 +9,7 @@ padded_set xs n y long few =
     let one_less : 256 - length xs ≡ suc rest = omega (arith, length_push xs y) in
     ap (λ k. set (xs ++ replicate k 256) n y) one_less ∙ set_at xs 256 (replicate rest 256) y n long ∙ sym (append_assoc xs (y ∷ []) (replicate rest 256))
 
-padded_more : (xs : List ℕ) (n y : ℕ) → n < 256 → length xs ≡ 256 → xs ≡ padded (take n xs) → set xs n y ≡ padded (take (n + 1) (set xs n y))
+pub padded_more : (xs : List ℕ) (n y : ℕ) → n < 256 → length xs ≡ 256 → xs ≡ padded (take n xs) → set xs n y ≡ padded (take (n + 1) (set xs n y))
 padded_more xs n y few wide laid =
     ap (λ l. set l n y) laid
     ∙ padded_set (take n xs) n y (length-take-le n xs (omega (arith, wide))) few

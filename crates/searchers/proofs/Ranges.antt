@@ -32,8 +32,9 @@ module _ (g : ℕ) where
       subst (λ l. AfterLast g l (after_last g (i + 1) (cond (eqb x g) (i + 1) e) xs)) (append_assoc done (x ∷ []) xs)
       (after_on xs (done ++ (x ∷ [])) (i + 1) (cond (eqb x g) (i + 1) e) (length_push done x ∙ ap (λ n. n + 1) long) next)
 
-  after_last_means : (ids : List ℕ) → AfterLast g ids (after_last g 0 0 ids)
-  after_last_means ids = after_on ids [] 0 0 refl (record { within = omega arith; last = λ some. absurd (omega arith); none = λ j l m _. omega arith })
+  -- the scan's answer is such a place
+  pub means_after_last : (ids : List ℕ) (e : ℕ) → e ≡ after_last g 0 0 ids → AfterLast g ids e
+  means_after_last ids e is = subst (AfterLast g ids) (sym is) (after_on ids [] 0 0 refl (record { within = omega arith; last = λ some. absurd (omega arith); none = λ j l m _. omega arith }))
 
   not_before : (ids : List ℕ) (d e : ℕ) → AfterLast g ids d → AfterLast g ids e → d < e → ⊥
   not_before ids d e at_d at_e l = at_d.none (e - 1) (omega arith) (omega (arith, at_e.within)) (at_e.last (omega arith))
@@ -41,10 +42,11 @@ module _ (g : ℕ) where
   -- there is one such place
   pub is_after_last : (ids : List ℕ) (e : ℕ) → AfterLast g ids e → e ≡ after_last g 0 0 ids
   is_after_last ids e at =
+      let scanned : AfterLast g ids (after_last g 0 0 ids) = means_after_last ids _ refl in
       elim (cases_order e (after_last g 0 0 ids)) [
         | inl same ↦ same
         | inr differs ↦ elim differs [
-          | inl before ↦ absurd (not_before ids e _ at (after_last_means ids) before)
-          | inr after ↦ absurd (not_before ids _ e (after_last_means ids) at after)
+          | inl before ↦ absurd (not_before ids e _ at scanned before)
+          | inr after ↦ absurd (not_before ids _ e scanned at after)
         ]
       ]

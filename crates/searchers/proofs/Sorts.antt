@@ -81,6 +81,10 @@ module _ {K : Type 0} (same : K → K → Bool) (order : K → K → Ordering) w
         let here : place same key (t.1 ∷ []) ≡ 0 = ap (λ b. cond b 0 1) (ties t.1 key ∙ ap is_eq t.3) in
         omega (arith, place_behind same key t.0 (t.1 ∷ []) none, here, ap (place same key) t.2, ap length t.2, length_push t.0 t.1)
 
+    -- a group has begun where a key ties with the last row's
+    pub some_first : {keys : List K} {before : Option K} {ids firsts : List ℕ} {i : ℕ} (s : Sorting keys before ids firsts i) (key : K) → rise order before key ≡ Equal → 0 < length firsts
+    some_first {before = before} s key e = omega (arith, old_place s.seen key (old_trail s.seen before key s.trail e), s.many)
+
     module _ {keys : List K} {before : Option K} {ids firsts : List ℕ} {i : ℕ} (s : Sorting keys before ids firsts i) (key : K) (low : i < length keys) (read : key ≡ get_or keys i key) where
       pub ends_sorting : rise order before key ≡ Less → first_fall below None 0 keys ≡ Some i
       ends_sorting e = sym s.passes ∙ fall_here below before keys i key low read (falls_is before key ∙ ap is_lt e)
@@ -120,6 +124,3 @@ module _ {K : Type 0} (same : K → K → Bool) (order : K → K → Ordering) w
             gathers = rw last (rw (grown, is_new) at (gathered_on same s.gathers (length firsts) key low at s.many));
             passes = on (ap is_lt e);
           }
-
-      pub some_first : rise order before key ≡ Equal → 0 < length firsts
-      some_first e = omega (arith, old_place s.seen key (old_trail s.seen before key s.trail e), s.many)

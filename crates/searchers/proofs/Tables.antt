@@ -18,7 +18,7 @@ bit_one : (held : Option ℕ) → is_some held ≡ true → bit held ≡ 1
 bit_one held some = ap (λ b. cond b 1 0) some
 
 -- every slot taken: as many as there are
-all_taken : (xs : List (Option ℕ)) → ((i : ℕ) → i < length xs → is_some (held_at xs i) ≡ true) → count_by is_some xs ≡ length xs
+pub all_taken : (xs : List (Option ℕ)) → ((i : ℕ) → i < length xs → is_some (held_at xs i) ≡ true) → count_by is_some xs ≡ length xs
 all_taken [] h = refl
 all_taken (x ∷ xs) h =
     let rest : count_by is_some xs ≡ length xs = all_taken xs (λ i l. h (suc i) (suc-le-suc l)) in
@@ -38,7 +38,7 @@ module _ {K : Type 0} (same : K → K → Bool) (hashed : K → ℕ) where
   Passed seen slots k e = (j : ℕ) → j < e → (is_some (held_at slots (slot (hashed k) j)) ≡ true) × ((g : ℕ) (d : K) → held_at slots (slot (hashed k) j) ≡ Some g → same (get_or seen g d) k ≡ false)
 
   -- no key yet
-  fresh : Sound same hashed [] (replicate 512 None)
+  pub fresh : Sound same hashed [] (replicate 512 None)
   fresh = record {
     wide = refl;
     few = omega arith;
@@ -95,7 +95,7 @@ module _ {K : Type 0} (same : K → K → Bool) (hashed : K → ℕ) where
         )
 
   -- one key more, at the free slot where the search for it ended
-  add_sound : {seen : List K} {slots : List (Option ℕ)} {k : K} {at : ℕ} → Sound same hashed seen slots → Vacant same hashed seen slots k at → length seen < 256 → Sound same hashed (seen ++ k ∷ []) (set slots at (Some (length seen)))
+  pub add_sound : {seen : List K} {slots : List (Option ℕ)} {k : K} {at : ℕ} → Sound same hashed seen slots → Vacant same hashed seen slots k at → length seen < 256 → Sound same hashed (seen ++ k ∷ []) (set slots at (Some (length seen)))
   add_sound {seen} {slots} {k} {at} s vacant room =
       let new = set slots at (Some (length seen)) in
       let long : length (seen ++ k ∷ []) ≡ length seen + 1 = length_push seen k in

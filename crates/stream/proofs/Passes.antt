@@ -8,6 +8,7 @@ use Rattle.faults.proofs.Causes.{no_cause, when_none, not_above}
 
 pub record Passed {K R P : Type 0} (s : Settings K R P) (facts : Facts K) (batch : List (Row K)) (places : ℕ) : Type 0 where
   pub going : facts.finished ≡ false
+  pub short : length batch ≤ 256
   pub countable : facts.accepted + length batch < 2 ^ 32
   pub waiting : facts.waiting + length batch ≤ 512
   pub kept : facts.kept + length batch ≤ 1024
@@ -20,6 +21,7 @@ passed s facts batch places e =
     let few = not_above 4294967295 (facts.accepted + length batch) (of_run 10 0) none.1.1.1.0 in
     record {
       going = when_none facts.finished (of_run 7 0) none.0;
+      short = not_above 256 (length batch) (of_run 8 0) none.1.0;
       countable = omega arith;
       waiting = not_above 512 (facts.waiting + length batch) (of_run 11 0) none.1.1.1.1.0;
       kept = not_above 1024 (facts.kept + length batch) (of_run 12 0) none.1.1.1.1.1.0;

@@ -24,9 +24,12 @@ blank_laid n = let all : n ≡ n - 0 = omega arith in ap (λ k. replicate k None
 pub somes_of : {X : Type 0} (n : ℕ) (places : List (Option X)) (xs : List X) → places ≡ laid n xs → somes places ≡ xs
 somes_of n places xs e = ap somes e ∙ somes_laid n xs
 
+pub laid_own : {X : Type 0} (n : ℕ) (places : List (Option X)) (xs : List X) → places ≡ laid n xs → places ≡ laid n (somes places)
+laid_own n places xs e = e ∙ ap (laid n) (sym (somes_of n places xs e))
+
 pub laid_table : {X : Type 0} (n : ℕ) (places : List (Option X)) (xs : List X) {len : ℕ} → places ≡ laid n xs → len ≡ length xs → len ≤ n
     → record { packed : places ≡ laid n (somes places); count : len ≡ length (somes places); few : len ≤ n }
-laid_table n places xs e long few = record { packed = e ∙ ap (laid n) (sym (somes_of n places xs e)); count = long ∙ sym (ap length (somes_of n places xs e)); few = few }
+laid_table n places xs e long few = record { packed = laid_own n places xs e; count = long ∙ sym (ap length (somes_of n places xs e)); few = few }
 
 pub laid_size : {X : Type 0} (n : ℕ) (xs : List X) → length xs ≤ n → length (laid n xs) ≡ n
 laid_size {X} n xs h =

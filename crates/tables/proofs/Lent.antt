@@ -34,6 +34,11 @@ altered_set f d [] i = refl
 altered_set f d (y ∷ ys) zero = refl
 altered_set f d (y ∷ ys) (suc i) = ap (λ l. y ∷ l) (altered_set f d ys i)
 
+pub length_altered : {X : Type 0} (f : X → X) (i : ℕ) (xs : List X) → length (altered f i xs) ≡ length xs
+length_altered f i [] = refl
+length_altered f zero (x ∷ xs) = refl
+length_altered f (suc i) (x ∷ xs) = ap suc (length_altered f i xs)
+
 pub alter_get : {X : Type 0} (f : X → X) (xs : List X) (i : ℕ) (x : X) → slice_get xs i ≡ Some x → set xs i (f x) ≡ altered f i xs
 alter_get f xs i x e = ap (λ z. set xs i (f z)) (sym (get_or_from_slice_get xs i x x e)) ∙ sym (altered_set f x xs i)
 

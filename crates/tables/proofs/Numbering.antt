@@ -50,7 +50,7 @@ module _ {K P : Type 0} {held : List (Held K P)} {new : List ℕ} {live i : ℕ}
       let mark : b ≡ value_at (λ e. e.ended) true held i = sym f ∙ value_read (λ e. e.ended) true held i e h is in
       next ∙ ap (λ n. n + cond (value_at (λ e. e.ended) true held i) 0 1) (sym q.last) ∙ ap (λ b. live + cond b 0 1) (sym mark)
 
-  numbering_more : (b : Bool) → e.ended ≡ b → (next : ℕ) → next ≡ live + cond b 0 1 → next ≤ live + 1 → {there : List ℕ} → there ≡ new ++ live ∷ [] → {j : ℕ} → j ≡ i + 1 → Numbering held there next j
+  pub numbering_more : (b : Bool) → e.ended ≡ b → (next : ℕ) → next ≡ live + cond b 0 1 → next ≤ live + 1 → {there : List ℕ} → there ≡ new ++ live ∷ [] → {j : ℕ} → j ≡ i + 1 → Numbering held there next j
   numbering_more b f next n le {there} made {j} on = record {
     long = ap length made ∙ length_push new live ∙ ap (λ n. n + 1) q.long ∙ sym on;
     few = omega (arith, q.few);
@@ -80,7 +80,7 @@ new_place_is held new q p =
       | inr past ↦ ap (λ o. unwrap_or o new.live) (slice_get_past places p past) ∙ q.past ∙ renumbered_past held (length held) p (omega arith) (omega (arith, q.long))
     ]
 
-moved_is : {K R P : Type 0} (held : List (Held K P)) (new : NewPlaces) → Numbered held new → (ws : List (Waiting K R)) → map (moved_by new) ws ≡ map (moved held) ws
+pub moved_is : {K R P : Type 0} (held : List (Held K P)) (new : NewPlaces) → Numbered held new → (ws : List (Waiting K R)) → map (moved_by new) ws ≡ map (moved held) ws
 moved_is held new q [] = refl
 moved_is held new q (w ∷ ws) =
     ap (λ p. record { row = w.row; place = p; rank = w.rank; results = w.results } ∷ map (moved_by new) ws) (new_place_is held new q w.place)

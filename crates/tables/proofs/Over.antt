@@ -20,7 +20,7 @@ over_all {X} {f} {xs} {ys} i o h =
     o.is ∙ ap (λ l. map f l ++ drop i xs) (take_all i xs h) ∙ ap (λ l. map f xs ++ l) (drop_all i xs h) ∙ append-nil (map f xs)
 
 -- a loop that writes f of each element of xs to the front of ys
-copy_more : {X Y : Type 0} (f : X → Y) (xs : List X) (ys : List Y) (i : ℕ) (x : X) → i < length xs → i < length ys → x ≡ get_or xs i x
+pub copy_more : {X Y : Type 0} (f : X → Y) (xs : List X) (ys : List Y) (i : ℕ) (x : X) → i < length xs → i < length ys → x ≡ get_or xs i x
     → set (map f (take i xs) ++ drop i ys) i (f x) ≡ map f (take (i + 1) xs) ++ drop (i + 1) ys
 copy_more {X} {Y} f xs ys i x h k e =
     let front : List Y = map f (take i xs) in

@@ -10,7 +10,7 @@ use Rattle.tables.specs.Altered.{altered}
 use Rattle.tables.specs.Leaving.{Numbered, placed_by, Counted}
 use Rattle.tables.specs.Lists.{value_at, of_place, renumbered, pruned}
 use Rattle.tables.proofs.Holding.{value_past, turned_round}
-use Rattle.tables.proofs.Lent.{altered_set}
+use Rattle.tables.proofs.Lent.{altered_set, length_altered}
 use Rattle.tables.proofs.Numbering.{new_place_is}
 
 here : {K : Type 0} (p : ℕ) (k : Kept K) (ks : List (Kept K)) → k.place ≡ p → of_place p (k ∷ ks) ≡ k ∷ of_place p ks
@@ -72,7 +72,7 @@ counting_more {K} {n} {xs} {counts} {i} {x} c h e {there} more {j} on =
     let made : (q : ℕ) → get_or there q 0 ≡ get_or (set counts p v) q 0 = λ q. ap (λ l. get_or l q 0) is_there in
     let behind : (q : ℕ) → length (of_place q (drop j xs)) ≡ length (of_place q (drop (i + 1) xs)) = λ q. ap (λ k. length (of_place q (drop k xs))) on in
     record {
-      long = ap length is_there ∙ length-set counts p v ∙ c.long;
+      long = ap length more ∙ length_altered (λ k. k + 1) p counts ∙ c.long;
       few = λ q. elim (cases_lt q n) [
         | inl low ↦
             let w = written counts p v q (omega (arith, c.long)) in

@@ -154,7 +154,7 @@ module _ {K : Type 0} (same : K → K → Bool) where
       let rest = firsts_low n (noticed same k seen) (i + 1) keys (omega arith) in
       cond_both (ltb (place same k seen) (length seen)) _ _ (AllByRecursion (λ p. p < n)) (λ _. rest) (λ _. (omega arith, rest))
 
-  firsts_few : (seen : List K) (i : ℕ) (keys : List K) → length (group_firsts same seen i keys) ≤ length keys
+  pub firsts_few : (seen : List K) (i : ℕ) (keys : List K) → length (group_firsts same seen i keys) ≤ length keys
   firsts_few seen i [] = omega arith
   firsts_few seen i (k ∷ keys) =
       let rest = firsts_few (noticed same k seen) (i + 1) keys in

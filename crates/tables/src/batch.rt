@@ -9,7 +9,7 @@ use searchers::rows::Row;
 use searchers::search::PartitionSearcher;
 use std::marker::Model;
 
-// At most 256 rows, and the groups that a searcher gave for them. Contracts see the rows, by which the groups are known.
+// At most 256 rows, and the groups that are theirs. Contracts see the rows, by which the groups are known.
 #[derive(Drop)]
 pub struct Batch<'a, K: Key> {
     rows: &'a [Row<K>],

@@ -20,6 +20,7 @@ impl NewPlaces {
         ensures { Numbered (rows held.now) result }
     {
         let mut places = Table::new();
+        // The count goes along with the places: each is how many living keys stand before it.
         let mut live = 0;
         for entry in held.iter() {
             places.push(live);

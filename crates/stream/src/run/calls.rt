@@ -56,14 +56,17 @@ impl<K: OrderedKey, S: PartitionSearcher<K>, F: Figure> BoundedWindowAggStream<K
         if self.finished {
             return Err(RunFault::Finished);
         }
+        if rows.len() > 256 {
+            return Err(RunFault::BatchTooLong);
+        }
         let searcher = self.settings.searcher();
-        let batch = Batch::grouped_by(searcher, rows).ok_or(RunFault::BatchTooLong)?;
         if let Some(row) = searcher.check_order(rows, &self.last) {
             return Err(RunFault::OutOfOrder(row));
         }
         if rows.len() > (u32::MAX - self.accepted) as usize {
             return Err(RunFault::TooManyAccepted);
         }
+        let batch = Batch::of(rows, searcher.evaluate_partition_batches(rows));
         check_room(&self.tables, &batch, places)?;
         Ok(batch)
     }

@@ -1,10 +1,10 @@
 -- Each way out is the first cause, since those in front of it are not there.
-use Rattle.std.proofs.Common.{◌≡◌, ◌+◌, ◌^◌, ◌<◌, [], ◌∷◌, ◌≤◌, length, Some, Err, sym, refl, ap, ◌∙◌, arith, rules}
+use Rattle.std.proofs.Common.{◌≡◌, ◌+◌, ◌^◌, ◌<◌, [], ◌∷◌, length, Some, Err, sym, refl, ap, ◌∙◌, arith, rules}
+use Rattle.std.proofs.lemmas.List.{take_all}
 use Rattle.std.proofs.lemmas.Result.{err_from_is_err_and}
+use Rattle.searchers.specs.Groups.{grouped}
 use Rattle.searchers.specs.Order.{keys_of, lower, first_fall}
 use Rattle.std.specs.Bool.{then_some}
-use Rattle.std.specs.Option.{ok_or}
-use Rattle.faults.specs.declared.run.RunFault.TheVariants.{BatchTooLong}
 use Rattle.faults.specs.Causes.{first_of}
 use Rattle.faults.specs.Numbers.{of_run}
 use Rattle.tables.specs.Lists.{held_keys}
@@ -23,10 +23,10 @@ use Rattle.stream.specs.contracts.run.BoundedWindowAggStream as run-type
 use Rattle.stream.specs.contracts.run.BoundedWindowAggStream.check_push as here
 use Rattle.stream.specs.Views.{view, settings_of}
 use Rattle.faults.proofs.Causes.{first_at, past, when_above, when_not_above}
-use Rattle.stream.proofs.Checks.{handed_on, gives_none, taken, not_taken}
+use Rattle.stream.proofs.Checks.{handed_on, gives_none}
 use Rattle.stream.proofs.run.BoundedWindowAggStream.check_push.Given.{Over}
 use Rattle.stream.proofs.run.BoundedWindowAggStream.check_push.Goals as goal
-use Rattle.stream.proofs.run.BoundedWindowAggStream.check_push.Goals.{In_ok-batch, After-check_order}
+use Rattle.stream.proofs.run.BoundedWindowAggStream.check_push.Goals.{After-check_order}
 
 -- the first row out of order, by the settings' mode
 in_order : (g : Over) (c : After-check_order g)
@@ -35,23 +35,15 @@ in_order g c =
     sym (c.check_order.ensures.value
     ∙ ap (λ s. first_fall (lower (g.S.PartitionSearcher.mode s) g.K.Ord.cmp g.K.OrderedKey.parts) c.args.self.now.last 0 (keys_of c.args.rows.now)) c.searcher-searcher.ensures)
 
--- the rows that were taken as a batch
-short : (g : Over) (c : In_ok-batch g) → (length c.args.rows.now ≤ 256) × (c.in_ok-batch.batch ≡ c.args.rows.now)
-short g c = taken (length c.args.rows.now) c.args.rows.now c.in_ok-batch.batch c.ok_or.result (sym c.grouped_by.ensures ∙ c.ok_or.ensures.ok_part) c.in_ok-batch.was
-
-pub returns-in_err-batch : goal.returns-in_err-batch
-returns-in_err-batch g c =
+pub returns-then-rows-gt256 : goal.returns-then-rows-gt256
+returns-then-rows-gt256 g c =
     let run = c.args.self.now in
     let batch = c.args.rows.now in
-    let long = not_taken (length batch) batch BatchTooLong c.in_err-batch.field-0.0 c.ok_or.result (c.ok_or.ensures.value ∙ ap (λ o. ok_or o BatchTooLong) c.grouped_by.ensures) c.in_err-batch.was in
-    let p = err_from_is_err_and c.from_residual.result c.from_residual.ensures.1 in
-    let is = p.1 ∙ ap Err (p.2 ∙ long.1) in
     record {
-      refusal = handed_on _ c.from_residual.result BatchTooLong is
-          (first_at 1 (push_causes (settings_of (kind_by g.K.PartialEq.eq g.K.Ord.cmp g.K.OrderedKey.parts) g.S.PartitionSearcher g.F.Figure run) (view_facts (view run)) batch c.args.places) (of_run 8 0)
+      refusal = first_at 1 (push_causes (settings_of (kind_by g.K.PartialEq.eq g.K.Ord.cmp g.K.OrderedKey.parts) g.S.PartitionSearcher g.F.Figure run) (view_facts (view run)) batch c.args.places) (of_run 8 0)
           (ap (λ b. then_some b (of_run 7 0)) c.if-self.false, tt)
-          (ap Some (when_above 256 (length batch) (of_run 8 0) long.0)));
-      batch = gives_none _ c.from_residual.result BatchTooLong is;
+          (ap Some (when_above 256 (length batch) (of_run 8 0) c.if-rows-gt256.true));
+      batch = tt;
     }
 
 pub returns-in-Some : goal.returns-in-Some
@@ -61,7 +53,7 @@ returns-in-Some g c =
     let at = goal.at.returns-in-Some g c in
     record {
       refusal = first_at 2 (push_causes (settings_of (kind_by g.K.PartialEq.eq g.K.Ord.cmp g.K.OrderedKey.parts) g.S.PartitionSearcher g.F.Figure run) (view_facts (view run)) batch c.args.places) (of_run 9 c.in-Some.row)
-          (ap (λ b. then_some b (of_run 7 0)) c.if-self.false, (when_not_above 256 (length batch) (of_run 8 0) (short g at.In_ok-batch).0, tt))
+          (ap (λ b. then_some b (of_run 7 0)) c.if-self.false, (when_not_above 256 (length batch) (of_run 8 0) c.if-rows-gt256.false, tt))
           (ap (λ o. Some (out_of_order o)) (in_order g at.After-check_order ∙ c.in-Some.is));
       batch = tt;
     }
@@ -74,11 +66,17 @@ returns-then-rows-self g c =
     record {
       refusal = first_at 3 (push_causes (settings_of (kind_by g.K.PartialEq.eq g.K.Ord.cmp g.K.OrderedKey.parts) g.S.PartitionSearcher g.F.Figure run) (view_facts (view run)) batch c.args.places) (of_run 10 0) (
         ap (λ b. then_some b (of_run 7 0)) c.if-self.false,
-        (when_not_above 256 (length batch) (of_run 8 0) (short g at.In_ok-batch).0, (ap out_of_order (in_order g at.After-check_order ∙ c.in_default.is), tt)),
+        (when_not_above 256 (length batch) (of_run 8 0) c.if-rows-gt256.false, (ap out_of_order (in_order g at.After-check_order ∙ c.in_default.is), tt)),
       )
           (ap Some (when_above 4294967295 (run.accepted + length batch) (of_run 10 0) (omega arith)));
       batch = tt;
     }
+
+pub of-batch-requires : goal.of-batch-requires
+of-batch-requires g c = record {
+  short = c.if-rows-gt256.false;
+  grouped = c.evaluate_partition_batches.ensures.value ∙ ap (λ rows. grouped g.K.PartialEq.eq (keys_of rows)) (take_all 256 c.args.rows.now c.if-rows-gt256.false);
+}
 
 pub check_room-requires : goal.check_room-requires
 check_room-requires g c =
@@ -94,21 +92,20 @@ returns-in_err-check_room g c =
     let batch = c.args.rows.now in
     let t = (view run).tables in
     let at = goal.at.returns-in_err-check_room g c in
-    let whole = short g at.In_ok-batch in
-    let p = err_from_is_err_and c.from_residual-in_err-check_room.result c.from_residual-in_err-check_room.ensures.1 in
+    let p = err_from_is_err_and c.from_residual.result c.from_residual.ensures.1 in
     let is = p.1 ∙ ap Err p.2 in
     record {
-      refusal = handed_on _ c.from_residual-in_err-check_room.result c.in_err-check_room.field-0.0 is
+      refusal = handed_on _ c.from_residual.result c.in_err-check_room.field-0.0 is
           (past (then_some run.finished (of_run 7 0) ∷ _ ∷ _ ∷ _ ∷ []) (room_causes g.K.PartialEq.eq (length t.waiting) (length t.kept) (held_keys t.held) batch c.args.places) (
             ap (λ b. then_some b (of_run 7 0)) c.if-self.false,
             (
-              when_not_above 256 (length batch) (of_run 8 0) whole.0,
+              when_not_above 256 (length batch) (of_run 8 0) c.if-rows-gt256.false,
               (ap out_of_order (in_order g at.After-check_order ∙ c.in_default.is), (when_not_above 4294967295 (run.accepted + length batch) (of_run 10 0) (omega arith), tt)),
             ),
           )
-          ∙ ap (λ b. first_of (room_causes g.K.PartialEq.eq (length t.waiting) (length t.kept) (held_keys t.held) b c.args.places)) (sym whole.1)
+          ∙ ap (λ b. first_of (room_causes g.K.PartialEq.eq (length t.waiting) (length t.kept) (held_keys t.held) b c.args.places)) (sym c.of-batch.ensures)
           ∙ c.in_err-check_room.ensures);
-      batch = gives_none _ c.from_residual-in_err-check_room.result c.in_err-check_room.field-0.0 is;
+      batch = gives_none _ c.from_residual.result c.in_err-check_room.field-0.0 is;
     }
 
 pub returns : goal.returns
@@ -117,17 +114,16 @@ returns g c =
     let batch = c.args.rows.now in
     let t = (view run).tables in
     let at = goal.at.returns g c in
-    let whole = short g at.In_ok-batch in
     record {
       refusal =
           past (then_some run.finished (of_run 7 0) ∷ _ ∷ _ ∷ _ ∷ []) _ (
             ap (λ b. then_some b (of_run 7 0)) c.if-self.false,
             (
-              when_not_above 256 (length batch) (of_run 8 0) whole.0,
+              when_not_above 256 (length batch) (of_run 8 0) c.if-rows-gt256.false,
               (ap out_of_order (in_order g at.After-check_order ∙ c.in_default.is), (when_not_above 4294967295 (run.accepted + length batch) (of_run 10 0) (omega arith), tt)),
             ),
           )
-          ∙ ap (λ b. first_of (room_causes g.K.PartialEq.eq (length t.waiting) (length t.kept) (held_keys t.held) b c.args.places)) (sym whole.1)
+          ∙ ap (λ b. first_of (room_causes g.K.PartialEq.eq (length t.waiting) (length t.kept) (held_keys t.held) b c.args.places)) (sym c.of-batch.ensures)
           ∙ c.in_ok-check_room.ensures;
-      batch = whole.1;
+      batch = c.of-batch.ensures;
     }
